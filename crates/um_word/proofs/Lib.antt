@@ -1,0 +1,3 @@
+pub mod Arrays
+mod Examples
+pub mod Runs

@@ -1,0 +1,71 @@
+ghost use Rattle.std.specs.Prelude.{None};
+
+use crate::{Shelf, ShelfFault};
+use std::alloc::Global;
+use std::fs::File;
+use std::io;
+use std::io::{ErrorKind, Read, Write};
+use std::rt::Files;
+
+/// A shelf over the files of a folder. It tells nothing; each failure of the system is counted, and so
+/// is a file that isn't there.
+pub struct RealShelf<'a, R: Files> {
+    files: &'a R,
+    read_faults: u64,
+    write_faults: u64,
+}
+
+impl<'a, R: Files> RealShelf<'a, R> {
+    /// A shelf over these files.
+    pub fn new(files: &'a R) -> Self {
+        RealShelf {
+            files,
+            read_faults: 0,
+            write_faults: 0,
+        }
+    }
+}
+
+fn read_file<R: Files>(files: &R, alloc: Global, name: &str, max: usize) -> io::Result<Vec<u8>> {
+    let mut bytes = Vec::new(alloc);
+    File::open(files, name)?
+        .take(max as u64)
+        .read_to_end(&mut bytes)?;
+    Ok(bytes)
+}
+
+fn write_file<R: Files>(files: &R, name: &str, bytes: &[u8]) -> io::Result<()> {
+    let mut file = File::create(files, name)?;
+    file.write_all(bytes)?;
+    file.flush()
+}
+
+impl<'a, R: Files> Shelf for RealShelf<'a, R> {
+    ghost files = { λ _. None };
+
+    ghost read_faults = { λ shelf. shelf.read_faults };
+
+    ghost write_faults = { λ shelf. shelf.write_faults };
+
+    fn read(&mut self, alloc: Global, name: &str, max: usize) -> Result<Vec<u8>, ShelfFault> {
+        match read_file(self.files, alloc, name, max) {
+            Ok(bytes) => Ok(bytes),
+            Err(error) if error.kind() == ErrorKind::OutOfMemory => Err(ShelfFault::Memory),
+            Err(_) => {
+                self.read_faults = self.read_faults.saturating_add(1);
+                Err(ShelfFault::Failed)
+            }
+        }
+    }
+
+    fn write(&mut self, _alloc: Global, name: &str, bytes: &[u8]) -> Result<(), ShelfFault> {
+        match write_file(self.files, name, bytes) {
+            Ok(()) => Ok(()),
+            Err(error) if error.kind() == ErrorKind::OutOfMemory => Err(ShelfFault::Memory),
+            Err(_) => {
+                self.write_faults = self.write_faults.saturating_add(1);
+                Err(ShelfFault::Failed)
+            }
+        }
+    }
+}
