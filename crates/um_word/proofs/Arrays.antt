@@ -6,7 +6,7 @@ use Rattle.std.specs.declared.cmp.Ordering.{Ordering}
 use Rattle.std.specs.declared.cmp.Ordering.TheVariants.{Less, Equal, Greater}
 use Rattle.std.specs.FinMap as map
 use Rattle.std.specs.FinMap.{gets}
-use Rattle.um_word.specs.Machine.{Arrays}
+use Rattle.um_word.specs.State.{Arrays}
 
 pub get-insert_same : (m : Arrays) (k : ℕ) (ws : List ℕ) → map.get (map.insert m k ws) k ≡ Some ws
 get-insert_same m k ws = grind (arith, gets)

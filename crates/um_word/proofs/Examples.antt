@@ -3,16 +3,18 @@ use Rattle.std.proofs.Common.{◌≡◌, ℕ, List, [], ◌∷◌, Option, Some,
 use Rattle.umix_base.specs.declared.limits.Limits.{Limits}
 use Rattle.um_word.specs.declared.op.Op.TheVariants.{Set}
 use Rattle.um_word.specs.Operators.{decode_word}
-use Rattle.um_word.specs.Machine.{Standing, Stands, Failed, Fault, FingerOutside, BadOperator, OutputTooLarge, run, start_of, next_number}
+use Rattle.um_word.specs.State.{start_of}
+use Rattle.um_word.specs.Table.{Fault, FingerOutside, BadOperator, OutputTooLarge, DivideByZero}
+use Rattle.um_word.specs.Run.{Standing, Stands, Failed, run, next_number}
 use Rattle.um_word.proofs.Arrays.{get-insert_same}
 
 abbrev ample : Limits
 ample = record { arrays = 100; words = 1000 }
 
 -- what was written, and the fault with the number of its cycle
-abbrev told : Standing → List ℕ × Option (Fault × ℕ)
-told (Stands s) = (s.out, None)
-told (Failed s fault) = (s.out, Some (fault, next_number s))
+abbrev told : Standing (List ℕ) → List ℕ × Option (Fault × ℕ)
+told (Stands s ids) = (s.out, None)
+told (Failed s ids fault) = (s.out, Some (fault, next_number s))
 
 decodes_set : decode_word 0xd0000041 ≡ Some (Set 0 65)
 decodes_set = refl
@@ -31,3 +33,6 @@ too_large = simp get-insert_same
 
 no_operator : told (run ample 9 [] (start_of (0xe0000000 ∷ []) [])) ≡ ([], Some (BadOperator, 1))
 no_operator = simp get-insert_same
+
+no_quotient : told (run ample 9 [] (start_of (0x50000000 ∷ []) [])) ≡ ([], Some (DivideByZero, 1))
+no_quotient = simp get-insert_same

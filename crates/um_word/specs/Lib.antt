@@ -1,2 +1,6 @@
 pub mod Operators
-pub mod Machine
+pub mod State
+pub mod Table
+pub mod Run
+pub mod Rule
+pub mod Scroll

@@ -1,8 +1,11 @@
 //! Laws of the machine's definitions.
-ghost use Rattle.um_word.specs.Machine.{RunsCompose};
+ghost use Rattle.um_word.specs.Run.{RunsCompose, first_of, ids_left};
+ghost use Rattle.um_word.specs.Rule.{next_identifier, identifiers_left};
 
-/// A run of `n` cycles and then `m` more is the run of `n + m` cycles.
+/// A run of `n + m` cycles is a run of `n` cycles that goes on for `m` more, with identifiers from a
+/// list and with identifiers by the rule.
 #[tactic(auto, using(crate::proofs::Runs::runs_compose))]
 pub fn runs_compose()
-    ensures compose { RunsCompose }
+    ensures listed { RunsCompose first_of ids_left }
+    ensures ruled { RunsCompose next_identifier identifiers_left }
 {}

@@ -20,12 +20,12 @@ pub enum Op {
 }
 
 ghost use Rattle.std.specs.Prelude.{◌≡◌, IfSome};
-ghost use Rattle.um_word.specs.Operators.{decode_word, RegistersFit};
+ghost use Rattle.um_word.specs.Operators.{decode_word, IsEncodable};
 
 /// The operator of a platter, or `None` where its number is 14 or 15.
 pub fn decode(word: u32) -> Option<Op>
     ensures operator { result ≡ decode_word word }
-    ensures registers { IfSome result RegistersFit }
+    ensures registers { IfSome result IsEncodable }
 {
     let a = ((word >> 6) & 7) as u8;
     let b = ((word >> 3) & 7) as u8;
