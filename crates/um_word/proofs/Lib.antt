@@ -1,3 +1,4 @@
 pub mod Arrays
 mod Examples
 pub mod Runs
+pub mod Scrolls
