@@ -1,0 +1,6 @@
+pub mod Zero
+pub mod Bytes
+pub mod Rests
+pub mod Cycles
+pub mod Ends
+pub mod OneCycle

@@ -1,0 +1,61 @@
+-- The machine as its contracts see it.
+use Rattle.std.specs.Prelude.{ℕ, Bool, false, List, replicate, refl}
+use Rattle.std.specs.Coded.{Coded, code_by, coded×, coded_ℕ, coded_list, coded_bool}
+use Rattle.std.specs.FinMap as map
+use Rattle.umix_base.specs.declared.limits.Limits.{Limits}
+use Rattle.um_word.specs.State.{Arrays, State}
+use Rattle.um_word.specs.Rule.{Identifiers, none_made}
+
+-- a state without the bytes of its input and its output, with the identifiers and the limits of its run
+pub record Core : Type 0 where
+  pub registers : List ℕ
+  pub finger : ℕ
+  pub arrays : Arrays
+  pub identifiers : Identifiers
+  pub limits : Limits
+  pub cycles : ℕ
+  pub halted : Bool
+
+-- the state of a machine with this rest of the input and this output
+abbrev pub state_of : Core → List ℕ → List ℕ → State
+state_of m rest out = record {
+  registers = m.registers;
+  finger = m.finger;
+  arrays = m.arrays;
+  rest = rest;
+  out = out;
+  cycles = m.cycles;
+  halted = m.halted;
+}
+
+-- the arrays at the start: array 0 alone
+abbrev pub zero_array : List ℕ → Arrays
+zero_array words = map.insert map.empty 0 words
+
+-- the machine with which the run of these words begins
+abbrev pub machine_of : List ℕ → Limits → Core
+machine_of words limits = record {
+  registers = replicate 8 0;
+  finger = 0;
+  arrays = zero_array words;
+  identifiers = none_made;
+  limits = limits;
+  cycles = 0;
+  halted = false;
+}
+
+abbrev pub core_code : Coded Core
+core_code =
+    code_by (List ℕ × (ℕ × (Arrays × ((ℕ × List ℕ) × ((ℕ × ℕ) × (ℕ × Bool))))))
+    (coded× (coded_list coded_ℕ) (coded× coded_ℕ (coded× (map.code coded_ℕ (coded_list coded_ℕ)) (coded× (coded× coded_ℕ (coded_list coded_ℕ)) (coded× (coded× coded_ℕ coded_ℕ) (coded× coded_ℕ coded_bool))))))
+    (λ m. (m.registers, (m.finger, (m.arrays, ((m.identifiers.made, m.identifiers.abandoned), ((m.limits.arrays, m.limits.words), (m.cycles, m.halted)))))))
+    (λ p. record {
+      registers = p.0;
+      finger = p.1.0;
+      arrays = p.1.1.0;
+      identifiers = record { made = p.1.1.1.0.0; abandoned = p.1.1.1.0.1 };
+      limits = record { arrays = p.1.1.1.1.0.0; words = p.1.1.1.1.0.1 };
+      cycles = p.1.1.1.1.1.0;
+      halted = p.1.1.1.1.1.1;
+    })
+    (λ _. refl)

@@ -1,0 +1,5 @@
+pub mod Core
+pub mod Outside
+pub mod Stops
+pub mod Rows
+pub mod Runs

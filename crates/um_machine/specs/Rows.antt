@@ -1,0 +1,32 @@
+-- What the machine's own calls of one cycle say, by the row of the operator. Public clauses are in Runs.
+use Rattle.std.specs.Prelude.{◌≡◌, ℕ, ◌⊎◌, List, ◌∷◌, Option, Some, None, Result, Ok, Err, slice_index}
+use Rattle.um_word.specs.declared.op.Op.{Op}
+use Rattle.um_word.specs.declared.op.Op.TheVariants.{Input}
+use Rattle.um_word.specs.Table.{Next, Goes, Stops}
+use Rattle.um_machine.specs.declared.stop.Turn.{Turn}
+use Rattle.um_machine.specs.declared.stop.Stop.{Stop}
+use Rattle.um_machine.specs.declared.stop.Stop.TheVariants.{WriteFault, NotBuilt}
+use Rattle.um_machine.specs.Core.{Core, state_of}
+use Rattle.um_machine.specs.Outside.{MayHold}
+use Rattle.um_machine.specs.Stops.{stop_of, turn_of, MayFail, IsUnbuilt}
+
+-- a cycle that failed has written nothing, or at a failed Output perhaps its byte
+abbrev pub Wrote : Stop → (nothing byte : Type 0) → Type 0
+Wrote WriteFault nothing byte = nothing ⊎ byte
+Wrote stop nothing byte = nothing
+
+-- An answer and what it leaves, by what the cycle comes to: the machine, the rest of the input, and what
+-- the sink held before and holds now.
+abbrev pub Meets : Option Op → Core → List ℕ → Option (List ℕ) → Option (List ℕ) → Next → Result Turn Stop → Type 0
+Meets op new left before now next (Err NotBuilt) = IsUnbuilt op × (now ≡ before)
+Meets op new left before now (Goes t) (Ok turn) = (turn ≡ turn_of t.halted) × (t ≡ state_of new left t.out) × MayHold now t.out
+Meets op new left before now (Goes t) (Err stop) = MayFail op stop × Wrote stop (now ≡ before) (MayHold now t.out)
+Meets op new left before now (Stops fault) (Ok turn) = ⊥
+Meets op new left before now (Stops fault) (Err stop) = (stop ≡ stop_of fault) × (now ≡ before)
+
+-- the rest of a source before a call, by the rest after it: at an Input of one that doesn't tell, also what
+-- came into the register
+abbrev pub rest_before : Result Turn Stop → Option Op → Option (List ℕ) → List ℕ → List ℕ → List ℕ
+rest_before (Ok turn) (Some (Input c)) None registers left = slice_index registers c ∷ left
+rest_before (Ok turn) (Some (Input c)) (Some told) registers left = told
+rest_before result op before registers left = left

@@ -1,0 +1,58 @@
+-- Why a machine stops, beside its table.
+use Rattle.std.specs.Prelude.{◌≡◌, Bool, true, false, Option, Some, None}
+use Rattle.um_word.specs.declared.op.Op.{Op}
+use Rattle.um_word.specs.declared.op.Op.TheVariants.{Index, Amend, Alloc, Abandon, Out, Input, Load}
+use Rattle.um_word.specs.Table.{Fault}
+use Rattle.um_word.specs.Table as table
+use Rattle.um_machine.specs.declared.stop.Turn.{Turn}
+use Rattle.um_machine.specs.declared.stop.Turn.TheVariants as turns
+use Rattle.um_machine.specs.declared.stop.Stop.{Stop}
+use Rattle.um_machine.specs.declared.stop.Stop.TheVariants.{Halted, Budget, FingerOutside, BadOperator, IndexInactive, IndexOutside, AmendInactive, AmendOutside, DivideByZero, AbandonZero, AbandonInactive, LoadInactive, OutputTooLarge, ArraysFull, WordsFull, ReadFault, WriteFault, Memory}
+
+-- the stop of a fault of the table
+abbrev pub stop_of : Fault → Stop
+stop_of table.FingerOutside = FingerOutside
+stop_of table.BadOperator = BadOperator
+stop_of table.IndexInactive = IndexInactive
+stop_of table.IndexOutside = IndexOutside
+stop_of table.AmendInactive = AmendInactive
+stop_of table.AmendOutside = AmendOutside
+stop_of table.DivideByZero = DivideByZero
+stop_of table.AbandonZero = AbandonZero
+stop_of table.AbandonInactive = AbandonInactive
+stop_of table.LoadInactive = LoadInactive
+stop_of table.OutputTooLarge = OutputTooLarge
+stop_of (table.ArraysFull count) = ArraysFull count
+stop_of (table.WordsFull count) = WordsFull count
+
+-- whether a machine goes on after a cycle
+abbrev pub turn_of : Bool → Turn
+turn_of true = turns.Halted
+turn_of false = turns.Running
+
+-- how a run without a fault ends
+abbrev pub end_of : Bool → Stop
+end_of true = Halted
+end_of false = Budget
+
+-- operators that this machine runs; the others come with the store of arrays
+abbrev pub is_built : Op → Bool
+is_built (Index a b c) = false
+is_built (Amend a b c) = false
+is_built (Alloc b c) = false
+is_built (Abandon c) = false
+is_built (Load b c) = false
+is_built _ = true
+
+-- at these operators alone a cycle may fail for another cause than the table's
+abbrev pub MayFail : Option Op → Stop → Type 0
+MayFail (Some (Input c)) ReadFault = Unit {0}
+MayFail (Some (Out c)) WriteFault = Unit {0}
+MayFail (Some (Alloc b c)) Memory = Unit {0}
+MayFail (Some (Load b c)) Memory = Unit {0}
+MayFail op stop = ⊥
+
+-- the operator is one that this machine doesn't run yet
+abbrev pub IsUnbuilt : Option Op → Type 0
+IsUnbuilt None = ⊥
+IsUnbuilt (Some op) = is_built op ≡ false

@@ -1,0 +1,8 @@
+//! The machine: cycles by the table, and runs of many cycles, over a source and a sink.
+#![tactic(auto)]
+
+mod machine;
+mod stop;
+
+pub use machine::Machine;
+pub use stop::{Stop, Turn};
