@@ -1,5 +1,5 @@
 -- Why a machine stops, beside its table.
-use Rattle.std.specs.Prelude.{◌≡◌, Bool, true, false, Option, Some, None}
+use Rattle.std.specs.Prelude.{◌≡◌, ℕ, List, Bool, true, false, Option, Some, None, codes}
 use Rattle.um_word.specs.declared.op.Op.{Op}
 use Rattle.um_word.specs.declared.op.Op.TheVariants.{Index, Amend, Alloc, Abandon, Out, Input, Load}
 use Rattle.um_word.specs.Table.{Fault}
@@ -7,7 +7,7 @@ use Rattle.um_word.specs.Table as table
 use Rattle.um_machine.specs.declared.stop.Turn.{Turn}
 use Rattle.um_machine.specs.declared.stop.Turn.TheVariants as turns
 use Rattle.um_machine.specs.declared.stop.Stop.{Stop}
-use Rattle.um_machine.specs.declared.stop.Stop.TheVariants.{Halted, Budget, FingerOutside, BadOperator, IndexInactive, IndexOutside, AmendInactive, AmendOutside, DivideByZero, AbandonZero, AbandonInactive, LoadInactive, OutputTooLarge, ArraysFull, WordsFull, ReadFault, WriteFault, Memory}
+use Rattle.um_machine.specs.declared.stop.Stop.TheVariants.{Halted, Budget, FingerOutside, BadOperator, IndexInactive, IndexOutside, AmendInactive, AmendOutside, DivideByZero, AbandonZero, AbandonInactive, LoadInactive, OutputTooLarge, ArraysFull, WordsFull, NotBuilt, ReadFault, WriteFault, Memory}
 
 -- the stop of a fault of the table
 abbrev pub stop_of : Fault → Stop
@@ -56,3 +56,25 @@ MayFail op stop = ⊥
 abbrev pub IsUnbuilt : Option Op → Type 0
 IsUnbuilt None = ⊥
 IsUnbuilt (Some op) = is_built op ≡ false
+
+-- the name of a stop, as it is printed
+abbrev pub name_of : Stop → List ℕ
+name_of Halted = codes "Halted"
+name_of Budget = codes "Budget"
+name_of FingerOutside = codes "FingerOutside"
+name_of BadOperator = codes "BadOperator"
+name_of IndexInactive = codes "IndexInactive"
+name_of IndexOutside = codes "IndexOutside"
+name_of AmendInactive = codes "AmendInactive"
+name_of AmendOutside = codes "AmendOutside"
+name_of DivideByZero = codes "DivideByZero"
+name_of AbandonZero = codes "AbandonZero"
+name_of AbandonInactive = codes "AbandonInactive"
+name_of LoadInactive = codes "LoadInactive"
+name_of OutputTooLarge = codes "OutputTooLarge"
+name_of (ArraysFull count) = codes "ArraysFull"
+name_of (WordsFull count) = codes "WordsFull"
+name_of NotBuilt = codes "NotBuilt"
+name_of ReadFault = codes "ReadFault"
+name_of WriteFault = codes "WriteFault"
+name_of Memory = codes "Memory"

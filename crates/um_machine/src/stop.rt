@@ -1,5 +1,8 @@
 //! Why a machine stops.
 
+ghost use Rattle.std.specs.Prelude.{◌≡◌};
+ghost use Rattle.um_machine.specs.Stops.{name_of};
+
 /// Whether a machine goes on.
 #[derive(Clone, Copy, PartialEq, Eq, Debug, Drop)]
 pub enum Turn {
@@ -51,4 +54,33 @@ pub enum Stop {
     WriteFault,
     /// There was no memory.
     Memory,
+}
+
+impl Stop {
+    /// The name of the variant, as it is printed. Takes no memory.
+    pub fn name(&self) -> &'static str
+        ensures { result.now ≡ name_of self.now }
+    {
+        match self {
+            Stop::Halted => "Halted",
+            Stop::Budget => "Budget",
+            Stop::FingerOutside => "FingerOutside",
+            Stop::BadOperator => "BadOperator",
+            Stop::IndexInactive => "IndexInactive",
+            Stop::IndexOutside => "IndexOutside",
+            Stop::AmendInactive => "AmendInactive",
+            Stop::AmendOutside => "AmendOutside",
+            Stop::DivideByZero => "DivideByZero",
+            Stop::AbandonZero => "AbandonZero",
+            Stop::AbandonInactive => "AbandonInactive",
+            Stop::LoadInactive => "LoadInactive",
+            Stop::OutputTooLarge => "OutputTooLarge",
+            Stop::ArraysFull(_) => "ArraysFull",
+            Stop::WordsFull(_) => "WordsFull",
+            Stop::NotBuilt => "NotBuilt",
+            Stop::ReadFault => "ReadFault",
+            Stop::WriteFault => "WriteFault",
+            Stop::Memory => "Memory",
+        }
+    }
 }

@@ -1,4 +1,6 @@
 pub mod Arrays
 mod Examples
+pub mod Live
+pub mod Orderly
 pub mod Runs
 pub mod Scrolls

@@ -1,3 +1,7 @@
 pub mod Causes
 pub mod Streams
 pub mod Files
+pub mod Calls
+pub mod SourceInMemory
+pub mod SinkInMemory
+pub mod ShelfInMemory

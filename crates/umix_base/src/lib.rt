@@ -1,8 +1,11 @@
 //! The outside as the other crates see it: a source of bytes, a sink for bytes and a shelf of files,
-//! each of which may fail and counts that it did; and places and limits.
+//! which may fail and count that they did, over the system and in memory; and places and limits.
 #![tactic(auto)]
 
 mod limits;
+mod mem_shelf;
+mod mem_sink;
+mod mem_source;
 mod memory;
 mod place;
 mod real_in;
@@ -13,6 +16,9 @@ mod sink;
 mod source;
 
 pub use limits::Limits;
+pub use mem_shelf::{MemShelf, ShelfFail};
+pub use mem_sink::MemSink;
+pub use mem_source::MemSource;
 pub use memory::Memory;
 pub use place::Place;
 pub use real_in::RealIn;

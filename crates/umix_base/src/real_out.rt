@@ -31,3 +31,37 @@ impl<W: Write + Drop> Sink for RealOut<W> {
         Err(Failed)
     }
 }
+
+#[cfg(test)]
+mod tests {
+    use super::RealOut;
+    use crate::{Failed, Sink};
+    use std::io;
+    use std::io::{ErrorKind, Write};
+
+    // Takes every byte and fails at each flush.
+    #[derive(Drop)]
+    struct FailsToFlush;
+
+    impl Write for FailsToFlush {
+        fn write(&mut self, buf: &[u8]) -> io::Result<usize> {
+            Ok(buf.len())
+        }
+
+        fn flush(&mut self) -> io::Result<()> {
+            Err(ErrorKind::Other.into())
+        }
+    }
+
+    #[test]
+    fn fails_where_the_writer_takes_nothing(rt: HostRuntime) {
+        let mut held = [0u8; 4];
+        let mut out = RealOut::new(&mut held[..]);
+        let puts = [out.put(b"ab"), out.put(b"cde"), out.put(b"")];
+        assert_eq!(rt; puts, [Ok(()), Err(Failed), Ok(())]);
+        assert_eq!(rt; out.faults, 1);
+        assert_eq!(rt; held, *b"abcd");
+        let mut out = RealOut::new(FailsToFlush);
+        assert_eq!(rt; out.put(b"a"), Err(Failed));
+    }
+}

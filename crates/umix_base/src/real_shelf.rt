@@ -9,6 +9,7 @@ use std::rt::Files;
 
 /// A shelf over the files of a folder. It tells nothing; each failure of the system is counted, and so
 /// is a file that isn't there.
+#[derive(Drop)]
 pub struct RealShelf<'a, R: Files> {
     files: &'a R,
     read_faults: u64,
@@ -67,5 +68,26 @@ impl<'a, R: Files> Shelf for RealShelf<'a, R> {
                 Err(ShelfFault::Failed)
             }
         }
+    }
+}
+
+#[cfg(test)]
+mod tests {
+    use super::RealShelf;
+    use crate::{Shelf, ShelfFault};
+
+    #[test]
+    fn keeps_files(rt: HostRuntime) {
+        let alloc = rt.alloc();
+        let mut shelf = RealShelf::new(&rt);
+        assert_eq!(rt; shelf.write(alloc, "x", b"abcdef"), Ok(()));
+        let Ok(bytes) = shelf.read(alloc, "x", 4) else {
+            panic!(rt; "the file isn't read");
+        };
+        assert_eq!(rt; bytes.as_slice(), &b"abcd"[..]);
+        let missing = shelf.read(alloc, "none", 4);
+        assert!(rt; matches!(missing, Err(ShelfFault::Failed)));
+        assert_eq!(rt; shelf.write(alloc, "none/x", b"a"), Err(ShelfFault::Failed));
+        assert_eq!(rt; (shelf.read_faults, shelf.write_faults), (1, 1));
     }
 }

@@ -1,0 +1,313 @@
+// Every array stands in a vector of its own, at the place that its identifier numbers.
+ghost use Rattle.std.specs.Prelude.{◌≡◌, ℕ, ◌+◌, ◌-◌, ◌^◌, ◌≤◌, ◌<◌, List, length, replicate, slice_set, slice_index, option_copied, vec_len, vec_capacity, All, IfOk, IfErr, OnOk, OnErr};
+ghost use Rattle.std.specs.Option.{option_map};
+ghost use Rattle.std.specs.FinMap as map;
+ghost use Rattle.um_word.specs.State.{array_at, live_arrays, live_words};
+ghost use Rattle.um_word.specs.Rule.{next_identifier, taken, returned};
+ghost use Rattle.array_store.specs.Held.{IsHeld, HasArray, HasWord, new_held};
+ghost use Rattle.array_store.specs.Refusals.{RefusesNew, RefusesWord, RefusesAllocation, FitsAllocation, RefusesAbandonment, RefusesLoad, words_loaded};
+ghost use Rattle.array_store.specs.Slots.{slot_arrays, identifiers_of};
+
+use crate::fault::StoreFault;
+use std::alloc::Global;
+use std::marker::Model;
+use umix_base::{Limits, Memory};
+
+/// The greatest limit that a store may have on its arrays, without array 0.
+pub const MOST_ARRAYS: u64 = 16_777_216;
+
+/// The greatest limit that a store may have on its words, with those of array 0.
+pub const MOST_WORDS: u64 = 268_435_456;
+
+/// Arrays of 32-bit words by their identifiers. Array 0 is always there.
+#[derive(Drop)]
+pub struct Store {
+    alloc: Global,
+    // The words of the array that is numbered by the place, or `None` where it was abandoned.
+    slots: Vec<Option<Vec<u32>>>,
+    // The abandoned identifiers in the order of abandonment, with room for all that were made.
+    free: Vec<u32>,
+    // The words in all arrays.
+    words: u64,
+    limits: Limits,
+}
+
+impl Model for Store {
+    ghost use Rattle.array_store.specs.Held.{Held, held_code};
+
+    ghost Value = { Held };
+
+    ghost coded = { held_code };
+
+    ghost use Rattle.array_store.specs.Slots.{held_of, IsSound};
+
+    ghost view = { held_of };
+
+    ghost invariant = { IsSound };
+}
+
+impl Store {
+    /// A store in which array 0 has these words, and no identifier was made.
+    ///
+    /// `WordsFull` comes where they are more than the limit on words, else `Memory` may.
+    pub fn new(alloc: Global, zero: Vec<u32>, limits: Limits) -> Result<Store, StoreFault>
+        requires arrays { limits.arrays ≤ MOST_ARRAYS }
+        requires words { limits.words ≤ MOST_WORDS }
+        ensures ok { IfOk result (λ store. store ≡ new_held zero.items limits) }
+        ensures fits { OnOk result (length zero.items ≤ limits.words) }
+        ensures err { IfErr result (RefusesNew zero.items limits) }
+        ensures held { IfOk result IsHeld }
+    {
+        words_fit(&zero);
+        let words = zero.len() as u64;
+        if words > limits.words {
+            return Err(StoreFault::WordsFull(words));
+        }
+        let Ok(mut slots) = Vec::with_capacity(alloc, 1) else {
+            return Err(StoreFault::Memory);
+        };
+        slots.push_reserved(Some(zero));
+        Ok(Store {
+            alloc,
+            slots,
+            free: Vec::new(alloc),
+            words,
+            limits,
+        })
+    }
+
+    /// The word at an offset of an array, from 0. `Inactive`, then `Outside`. In constant time.
+    pub fn index(&self, id: u32, at: u32) -> Result<u32, StoreFault>
+        ensures ok { IfOk result (HasWord self.now id at) }
+        ensures err { IfErr result (RefusesWord self.now id at) }
+        ensures held { IsHeld self.now }
+    {
+        match array_of(&self.slots, id) {
+            None => Err(StoreFault::Inactive),
+            Some(words) => match words.get(at as usize) {
+                None => Err(StoreFault::Outside),
+                Some(word) => Ok(*word),
+            },
+        }
+    }
+
+    /// The word at an offset of an array, from 0, becomes this one. `Inactive`, then `Outside`.
+    /// In constant time, and it takes no memory.
+    pub fn amend(&mut self, id: u32, at: u32, word: u32) -> Result<(), StoreFault>
+        ensures ok { OnOk result (self.new ≡ record self.old {
+          arrays =
+              map.insert self.old.arrays id (slice_set (array_at self.old.arrays id) at word);
+        }) }
+        ensures there { OnOk result
+            (HasWord self.old id at (slice_index (array_at self.old.arrays id) at)) }
+        ensures err { IfErr result (RefusesWord self.old id at) }
+        ensures kept { OnErr result (self.new ≡ self.old) }
+        ensures held { IsHeld self.new }
+    {
+        self.index(id, at)?;
+        write_word(&mut self.slots, id, at, word);
+        Ok(())
+    }
+
+    /// A new array of this many platters, all 0, and its identifier, which is the one abandoned last,
+    /// or one more than the number made. `ArraysFull`, then `WordsFull`, then `Memory`.
+    ///
+    /// In time linear in the platters. It sets room aside for the identifier's return.
+    pub fn allocate(&mut self, size: u32) -> Result<u32, StoreFault>
+        ensures ok { IfOk result (λ id. id ≡ next_identifier self.old.identifiers) }
+        ensures made { OnOk result (self.new ≡ record self.old {
+          arrays = map.insert self.old.arrays (next_identifier self.old.identifiers) (replicate size 0);
+          identifiers = taken self.old.identifiers;
+        }) }
+        ensures fits { OnOk result (FitsAllocation self.old size) }
+        ensures err { IfErr result (RefusesAllocation self.old size) }
+        ensures kept { OnErr result (self.new ≡ self.old) }
+        ensures held { IsHeld self.new }
+    {
+        let arrays = (self.slots.len() - self.free.len()) as u64;
+        if arrays > self.limits.arrays {
+            return Err(StoreFault::ArraysFull(arrays));
+        }
+        let words = self.words + size as u64;
+        if words > self.limits.words {
+            return Err(StoreFault::WordsFull(words));
+        }
+        let Ok(zeros) = vec![in self.alloc; 0u32; size as usize] else {
+            return Err(StoreFault::Memory);
+        };
+        let Ok(id) = put_next(&mut self.slots, &mut self.free, zeros) else {
+            return Err(StoreFault::Memory);
+        };
+        self.words = words;
+        Ok(id)
+    }
+
+    /// The array is no more, its words are given back, and its identifier is the next to be handed
+    /// out. `Zero`, then `Inactive`. In constant time, and it takes no memory.
+    pub fn abandon(&mut self, id: u32) -> Result<(), StoreFault>
+        ensures ok { OnOk result (self.new ≡ record self.old {
+          arrays = map.remove self.old.arrays id;
+          identifiers = returned self.old.identifiers id;
+        }) }
+        ensures positive { OnOk result (1 ≤ id) }
+        ensures there { OnOk result (HasArray self.old id) }
+        ensures err { IfErr result (RefusesAbandonment self.old id) }
+        ensures kept { OnErr result (self.new ≡ self.old) }
+        ensures held { IsHeld self.new }
+    {
+        let Some(words) = array_of(&self.slots, id) else {
+            return Err(StoreFault::Inactive);
+        };
+        if id == 0 {
+            return Err(StoreFault::Zero);
+        }
+        self.words -= words.len() as u64;
+        empty_slot(&mut self.slots, id);
+        self.free.push_reserved(id);
+        Ok(())
+    }
+
+    /// A duplicate of the array takes the place of array 0; where it is array 0, nothing changes.
+    /// `Inactive`, then `WordsFull`, then `Memory`. In time linear in its words.
+    pub fn load(&mut self, id: u32) -> Result<(), StoreFault>
+        ensures zero { id ≡ 0 → (result ≡ Ok tt) × (self.new ≡ self.old) }
+        ensures ok { OnOk result (1 ≤ id → self.new ≡ record self.old {
+          arrays =
+              map.insert self.old.arrays 0 (array_at self.old.arrays id);
+        }) }
+        ensures there { OnOk result (HasArray self.old id) }
+        ensures fits { OnOk result (words_loaded self.old id ≤ self.old.limits.words) }
+        ensures err { IfErr result (RefusesLoad self.old id) }
+        ensures kept { OnErr result (self.new ≡ self.old) }
+        ensures held { IsHeld self.new }
+    {
+        let Some(source) = array_of(&self.slots, id) else {
+            return Err(StoreFault::Inactive);
+        };
+        if id == 0 {
+            return Ok(());
+        }
+        let words = self.words - length_of(&self.slots, 0) + source.len() as u64;
+        if words > self.limits.words {
+            return Err(StoreFault::WordsFull(words));
+        }
+        let Ok(copy) = Vec::from_slice(self.alloc, source) else {
+            return Err(StoreFault::Memory);
+        };
+        put_array(&mut self.slots, 0, copy);
+        self.words = words;
+        Ok(())
+    }
+
+    /// How many words an array has, or `None` where there is no such array. In constant time.
+    pub fn size(&self, id: u32) -> Option<u64>
+        ensures value { result ≡ option_map length (map.get self.now.arrays id) }
+        ensures held { IsHeld self.now }
+    {
+        match array_of(&self.slots, id) {
+            None => None,
+            Some(words) => Some(words.len() as u64),
+        }
+    }
+
+    /// The number of arrays, without array 0, and of words, with those of array 0. In constant time.
+    pub fn live(&self) -> (u64, u64)
+        ensures arrays { result.0 ≡ live_arrays self.now.arrays }
+        ensures words { result.1 ≡ live_words self.now.arrays }
+        ensures held { IsHeld self.now }
+    {
+        ((self.slots.len() - 1 - self.free.len()) as u64, self.words)
+    }
+}
+
+// What the type says of each word, and is kept of every array.
+fn words_fit(words: &[u32])
+    ensures { (at : ℕ) → slice_index words.now at < 2 ^ 32 }
+{
+    let _ = words;
+}
+
+// The words of an array, if it is there.
+fn array_of(slots: &[Option<Vec<u32>>], id: u32) -> Option<&[u32]>
+    ensures { option_copied result ≡ map.get (slot_arrays slots.now) id }
+{
+    let Some(slot) = slots.get(id as usize) else {
+        return None;
+    };
+    match slot {
+        None => None,
+        Some(words) => Some(words.as_slice()),
+    }
+}
+
+fn length_of(slots: &[Option<Vec<u32>>], id: u32) -> u64
+    ensures { result ≡ length (array_at (slot_arrays slots.now) id) }
+{
+    match array_of(slots, id) {
+        None => 0,
+        Some(words) => words.len() as u64,
+    }
+}
+
+// A word of an array that has one at this offset.
+fn write_word(slots: &mut Vec<Option<Vec<u32>>>, id: u32, at: u32, word: u32)
+    requires { at < length (array_at (slot_arrays slots.old.items) id) }
+    ensures arrays { slot_arrays slots.new.items ≡ map.insert (slot_arrays slots.old.items) id
+        (slice_set (array_at (slot_arrays slots.old.items) id) at word) }
+    ensures len { vec_len slots.new ≡ vec_len slots.old }
+{
+    match &mut slots[id as usize] {
+        Some(words) => words[at as usize] = word,
+        None => unreachable!(),
+    }
+}
+
+// The array is there with these words.
+fn put_array(slots: &mut Vec<Option<Vec<u32>>>, id: u32, words: Vec<u32>)
+    requires { id < vec_len slots.old }
+    ensures arrays { slot_arrays slots.new.items ≡ map.insert (slot_arrays slots.old.items) id words.items }
+    ensures len { vec_len slots.new ≡ vec_len slots.old }
+{
+    slots[id as usize] = Some(words);
+}
+
+// The next identifier is handed out for an array of these words, with room for its return.
+fn put_next(
+    slots: &mut Vec<Option<Vec<u32>>>,
+    free: &mut Vec<u32>,
+    words: Vec<u32>,
+) -> Result<u32, Memory>
+    requires some { 1 ≤ vec_len slots.old }
+    requires few { vec_len slots.old < 2 ^ 32 }
+    requires known { All (λ id. id < vec_len slots.old) free.old.items }
+    requires room { length slots.old.items - 1 ≤ vec_capacity free.old }
+    ensures ok { IfOk result (λ id.
+        id ≡ next_identifier (identifiers_of slots.old.items free.old.items)) }
+    ensures arrays { OnOk result (slot_arrays slots.new.items ≡ map.insert
+        (slot_arrays slots.old.items)
+        (next_identifier (identifiers_of slots.old.items free.old.items)) words.items) }
+    ensures identifiers { OnOk result (identifiers_of slots.new.items free.new.items
+        ≡ taken (identifiers_of slots.old.items free.old.items)) }
+    ensures kept { OnErr result
+        ((slots.new.items ≡ slots.old.items) × (free.new.items ≡ free.old.items)) }
+    ensures room { length slots.new.items - 1 ≤ vec_capacity free.new }
+{
+    if let Some(id) = free.pop() {
+        put_array(slots, id, words);
+        return Ok(id);
+    }
+    let id = slots.len();
+    if free.reserve(id).is_err() || slots.push(Some(words)).is_err() {
+        return Err(Memory);
+    }
+    Ok(id as u32)
+}
+
+// The array is no more.
+fn empty_slot(slots: &mut Vec<Option<Vec<u32>>>, id: u32)
+    requires { id < vec_len slots.old }
+    ensures arrays { slot_arrays slots.new.items ≡ map.remove (slot_arrays slots.old.items) id }
+    ensures len { vec_len slots.new ≡ vec_len slots.old }
+{
+    slots[id as usize] = None;
+}

@@ -1,0 +1,91 @@
+-- The command that runs a scroll.
+use Rattle.std.specs.Prelude.{◌≡◌, ◌≢◌, ℕ, ◌<◌, ◌≤◌, ◌⊎◌, ◌%◌, false, List, [], length}
+use Rattle.umix_base.specs.declared.limits.Limits.{Limits}
+use Rattle.umix_base.specs.Causes.{Rose}
+use Rattle.umix_base.specs.Files.{Lacks}
+use Rattle.um_word.specs.declared.scroll.TheConstants.{MOST_SCROLL_BYTES}
+use Rattle.um_word.specs.State.{State, start_of}
+use Rattle.um_word.specs.Table.{Next, Goes, cycle, op_under}
+use Rattle.um_word.specs.Run.{Standing, Stands, Failed}
+use Rattle.um_word.specs.Rule.{Identifiers, none_made, next_identifier, ruled}
+use Rattle.um_word.specs.Scroll.{scroll}
+use Rattle.um_machine.specs.declared.stop.Stop.{Stop}
+use Rattle.um_machine.specs.declared.stop.Stop.TheVariants.{NotBuilt, ReadFault, WriteFault, Memory}
+use Rattle.um_machine.specs.Outside.{MayRest}
+use Rattle.um_machine.specs.Stops.{stop_of, end_of, MayFail, IsUnbuilt}
+use Rattle.um_machine.specs.Runs.{Remains}
+use Rattle.codex_top.specs.declared.line.Refusal.{Refusal}
+use Rattle.codex_top.specs.declared.line.Refusal.TheVariants.{Ragged, ScrollTooLong}
+use Rattle.codex_top.specs.declared.line.Line.TheVariants as line
+use Rattle.codex_top.specs.Outside.{Outside, MayHave, IsSilent, IsUnread, Received}
+use Rattle.codex_top.specs.Endings.{End, stopped, end_of_run}
+
+-- the limits of every run
+abbrev pub limits : Limits
+limits = record { arrays = 16777216; words = 268435456 }
+
+-- the run of a scroll on this input, for so many cycles, with the identifiers of the rule
+abbrev pub run_of : (words input : List ℕ) → ℕ → Standing Identifiers
+run_of words input cycles = ruled limits cycles none_made (start_of words input)
+
+-- a run stands in t, and this is why it stopped
+abbrev pub StandsAt : Standing Identifiers → State → Stop → Type 0
+StandsAt (Stands s identifiers) t stop = (s ≡ t) × (stop ≡ end_of t.halted)
+StandsAt (Failed s identifiers fault) t stop = (s ≡ t) × (stop ≡ stop_of fault)
+
+-- Fewer cycles were made than there might be, and in the next the outside or the memory failed, at an
+-- operator where it may. Of a failed Output the byte may be out.
+pub record FailsAt (words input : List ℕ) (cycles : ℕ) (t : State) (stop : Stop) : Type 0 where
+  pub made : ℕ
+  pub fewer : made < cycles
+  pub at : State
+  pub identifiers : Identifiers
+  pub stands : run_of words input made ≡ Stands at identifiers
+  pub running : at.halted ≡ false
+  pub fails : MayFail (op_under at) stop
+  pub next : State
+  pub goes : cycle at limits (next_identifier identifiers) ≡ Goes next
+  pub remains : Remains stop at next t
+
+-- fewer cycles were made than there might be, and the next operator isn't built yet
+pub record UnbuiltAt (words input : List ℕ) (cycles : ℕ) (t : State) : Type 0 where
+  pub made : ℕ
+  pub fewer : made < cycles
+  pub identifiers : Identifiers
+  pub stands : run_of words input made ≡ Stands t identifiers
+  pub running : t.halted ≡ false
+  pub unbuilt : IsUnbuilt (op_under t)
+
+-- the run of the scroll stopped in the state t
+abbrev pub StopsAt : (words input : List ℕ) → ℕ → State → Stop → Type 0
+StopsAt words input cycles t NotBuilt = UnbuiltAt words input cycles t
+StopsAt words input cycles t ReadFault = FailsAt words input cycles t ReadFault
+StopsAt words input cycles t WriteFault = FailsAt words input cycles t WriteFault
+StopsAt words input cycles t Memory = FailsAt words input cycles t Memory
+StopsAt words input cycles t stop = StandsAt (run_of words input cycles) t stop
+
+-- The scroll was run: its input may be taken to be that of the source, whose rest is left; what the run
+-- wrote went out; and where the outside failed, its count rose.
+pub record Runs (words : List ℕ) (cycles : ℕ) (before now : Outside) (t : State) (stop : Stop) : Type 0 where
+  pub input : List ℕ
+  pub had : MayRest before.input input
+  pub stops : StopsAt words input cycles t stop
+  pub left : MayRest now.input t.rest
+  pub wrote : Received t.out before now
+  pub reads : stop ≡ ReadFault → Rose before.input_faults now.input_faults
+  pub writes : stop ≡ WriteFault → Rose before.output_faults now.output_faults
+
+-- why a file is no scroll
+abbrev pub IsRefused : List ℕ → Refusal → Type 0
+IsRefused bytes ScrollTooLong = MOST_SCROLL_BYTES < length bytes
+IsRefused bytes (Ragged count) = (length bytes ≤ MOST_SCROLL_BYTES) × (count ≡ length bytes) × (length bytes % 4 ≢ 0)
+
+-- how `run` of a file ends
+pub data RunEnds (file : List ℕ) (cycles : ℕ) (before now : Outside) : End → Type 0 where
+  unread : Rose before.read_faults now.read_faults ⊎ Lacks before.files file → IsSilent before now → IsUnread before now →
+      RunEnds file cycles before now (stopped line.ReadFault)
+  refused : (bytes : List ℕ) (refusal : Refusal) → MayHave before.files file bytes → IsRefused bytes refusal → IsSilent before now → IsUnread before now →
+      RunEnds file cycles before now (stopped (line.Refused refusal))
+  no_memory : IsSilent before now → IsUnread before now → RunEnds file cycles before now (stopped line.NoMemory)
+  ran : (words : List ℕ) (t : State) (stop : Stop) → MayHave before.files file (scroll words) → length (scroll words) ≤ MOST_SCROLL_BYTES → Runs words cycles before now t stop →
+      RunEnds file cycles before now (end_of_run cycles t.cycles stop)

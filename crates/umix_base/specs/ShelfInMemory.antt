@@ -1,0 +1,69 @@
+-- A shelf in memory, and what a call may answer and leave.
+use Rattle.std.specs.Prelude.{◌≡◌, ℕ, ◌||◌, ◌==◌, List, map, find, take, Option, Some, None, option_map, is_some, is_none, IsTrue, IsSome, IfSome, Result, Ok, Err, Vec, String, refl}
+use Rattle.std.specs.String.{string_bytes}
+use Rattle.std.specs.Coded.{Coded, code_by, coded×, coded_list, coded_option, coded_ℕ}
+use Rattle.std.specs.FinMap as files
+use Rattle.std.specs.declared.alloc.Global.{Global}
+use Rattle.umix_base.specs.Calls.{one_more, counted}
+use Rattle.umix_base.specs.Files.{Files}
+use Rattle.umix_base.specs.declared.mem_shelf.ShelfFail.{ShelfFail}
+use Rattle.umix_base.specs.declared.shelf.ShelfFault.{ShelfFault}
+use Rattle.umix_base.specs.declared.shelf.ShelfFault.TheVariants.{Failed, Memory}
+
+-- the files, the calls that fail, the next call's number, and how often a read and a write have failed
+pub record ShelfInMemory : Type 0 where
+  pub held : Files
+  pub fails : List ShelfFail
+  pub calls : ℕ
+  pub read_faults : ℕ
+  pub write_faults : ℕ
+
+-- how the next call fails, by the first entry with its number
+abbrev pub failure : ShelfInMemory → Option ShelfFail
+failure s = find (λ f. f.call == s.calls) s.fails
+
+-- the shelf with one more call made
+abbrev pub called : ShelfInMemory → ShelfInMemory
+called s = record s { calls = one_more s.calls }
+
+-- a read fails where its number says so or there is no such file; want of memory takes neither's place
+abbrev pub AnswersRead : ShelfInMemory → List ℕ → ℕ → Result (Vec ℕ Global) ShelfFault → Type 0
+AnswersRead s name max (Ok bytes) = (failure s ≡ None) × (option_map (take max) (files.get s.held name) ≡ Some bytes.items)
+AnswersRead s name max (Err Failed) = IsTrue (is_some (failure s) || is_none (files.get s.held name))
+AnswersRead s name max (Err Memory) = (failure s ≡ None) × IsSome (files.get s.held name)
+
+-- the shelf after a read: only a failure that the call's number asks for is counted
+abbrev pub after_read : ShelfInMemory → ShelfInMemory
+after_read s = record (called s) { read_faults = counted (is_some (failure s)) s.read_faults }
+
+-- the files after a failed write that keeps so many of the bytes, or leaves the file
+abbrev pub with_kept : Files → List ℕ → List ℕ → Option ℕ → Files
+with_kept held name bytes None = held
+with_kept held name bytes (Some k) = files.insert held name (take k bytes)
+
+-- a write fails where its number says so; want of memory, which one that keeps nothing hasn't, changes no file
+abbrev pub AnswersWrite : List ℕ → List ℕ → ShelfInMemory → ShelfInMemory → Result (Unit {0}) ShelfFault → Type 0
+AnswersWrite name bytes s new (Ok done) =
+    (failure s ≡ None) × (new ≡ record (called s) { held = files.insert s.held name bytes })
+AnswersWrite name bytes s new (Err Failed) =
+    (f : ShelfFail) × (failure s ≡ Some f)
+    × (new ≡ record (called s) { held = with_kept s.held name bytes f.kept; write_faults = one_more s.write_faults })
+AnswersWrite name bytes s new (Err Memory) =
+    (new ≡ called s) × IfSome (failure s) (λ f. IsSome f.kept)
+
+-- a code of an entry, and of a shelf: the tuple of its fields
+abbrev pub shelf_fail_code : Coded ShelfFail
+shelf_fail_code =
+    code_by (ℕ × Option ℕ) (coded× coded_ℕ (coded_option coded_ℕ)) (λ f. (f.call, f.kept)) (λ p. record { call = p.0; kept = p.1 }) (λ _. refl)
+
+abbrev pub shelf_code : Coded ShelfInMemory
+shelf_code =
+    code_by (Files × (List ShelfFail × (ℕ × (ℕ × ℕ))))
+    (coded× (files.code (coded_list coded_ℕ) (coded_list coded_ℕ)) (coded× (coded_list shelf_fail_code) (coded× coded_ℕ (coded× coded_ℕ coded_ℕ))))
+    (λ s. (s.held, (s.fails, (s.calls, (s.read_faults, s.write_faults)))))
+    (λ p. record { held = p.0; fails = p.1.0; calls = p.1.1.0; read_faults = p.1.1.1.0; write_faults = p.1.1.1.1 })
+    (λ _. refl)
+
+-- the finite map of the entries of a tree of names
+abbrev pub files_of : List (String Global × Vec ℕ Global) → Files
+files_of entries = files.from_entries (map (λ e. (string_bytes e.0, e.1.items)) entries)
