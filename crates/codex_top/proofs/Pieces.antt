@@ -19,13 +19,12 @@ pub begun_after : (old mid new : Option (List ℕ)) (before piece rest all : Lis
     (j : ℕ) × (j ≤ length all) × (new ≡ option_map (λ held. held ++ take j all) old)
 begun_after old mid new before piece rest all k is e le f =
     let beginning : take (length before + k) all ≡ before ++ take k piece =
-        ap (take (length before + k)) (sym is) ∙ take-append-add before (piece ++ rest) k ∙ ap (λ bytes. before ++ bytes) (take-append-le k piece rest le) in
+    ap (take (length before + k)) (sym is) ∙ take-append-add before (piece ++ rest) k ∙ ap (λ bytes. before ++ bytes) (take-append-le k piece rest le) in
     let long : length all ≡ length before + (length piece + length rest) =
-        ap length (sym is) ∙ length-append before (piece ++ rest) ∙ ap (λ n. length before + n) (length-append piece rest) in
-    (
+    ap length (sym is) ∙ length-append before (piece ++ rest) ∙ ap (λ n. length before + n) (length-append piece rest) in (
       length before + k,
       omega (arith, le, long),
-      written_after old mid new before (take k piece) e f ∙ ap (λ bytes. option_map (λ held. held ++ bytes) old) (sym beginning)
+      written_after old mid new before (take k piece) e f ∙ ap (λ bytes. option_map (λ held. held ++ bytes) old) (sym beginning),
     )
 
 -- the pieces before one of them, it, and those after it are all

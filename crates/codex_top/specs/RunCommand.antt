@@ -17,8 +17,10 @@ use Rattle.um_machine.specs.Runs.{Remains}
 use Rattle.codex_top.specs.declared.line.Refusal.{Refusal}
 use Rattle.codex_top.specs.declared.line.Refusal.TheVariants.{Ragged, ScrollTooLong}
 use Rattle.codex_top.specs.declared.line.Line.TheVariants as line
-use Rattle.codex_top.specs.Outside.{Outside, MayHave, IsSilent, IsUnread, Received}
-use Rattle.codex_top.specs.Endings.{End, stopped, end_of_run}
+use Rattle.codex_top.specs.Outside.{Shelved, Streams, MayHave, Received}
+use Rattle.codex_top.specs.declared.end.End.{End}
+use Rattle.codex_top.specs.declared.end.End.TheVariants.{Stopped}
+use Rattle.codex_top.specs.Endings.{end_of_run}
 
 -- the limits of every run
 abbrev pub limits : Limits
@@ -66,7 +68,7 @@ StopsAt words input cycles t stop = StandsAt (run_of words input cycles) t stop
 
 -- The scroll was run: its input may be taken to be that of the source, whose rest is left; what the run
 -- wrote went out; and where the outside failed, its count rose.
-pub record Runs (words : List ℕ) (cycles : ℕ) (before now : Outside) (t : State) (stop : Stop) : Type 0 where
+pub record Runs (words : List ℕ) (cycles : ℕ) (before now : Streams) (t : State) (stop : Stop) : Type 0 where
   pub input : List ℕ
   pub had : MayRest before.input input
   pub stops : StopsAt words input cycles t stop
@@ -75,17 +77,22 @@ pub record Runs (words : List ℕ) (cycles : ℕ) (before now : Outside) (t : St
   pub reads : stop ≡ ReadFault → Rose before.input_faults now.input_faults
   pub writes : stop ≡ WriteFault → Rose before.output_faults now.output_faults
 
+-- how the words of a scroll end: in a run, or there was no memory for them
+pub data WordsEnd (words : List ℕ) (cycles : ℕ) (before now : Streams) : End → Type 0 where
+  no_memory : now ≡ before → WordsEnd words cycles before now (Stopped line.NoMemory)
+  ran : (t : State) (stop : Stop) → Runs words cycles before now t stop → WordsEnd words cycles before now (end_of_run cycles t.cycles stop)
+
 -- why a file is no scroll
 abbrev pub IsRefused : List ℕ → Refusal → Type 0
 IsRefused bytes ScrollTooLong = MOST_SCROLL_BYTES < length bytes
 IsRefused bytes (Ragged count) = (length bytes ≤ MOST_SCROLL_BYTES) × (count ≡ length bytes) × (length bytes % 4 ≢ 0)
 
--- how `run` of a file ends
-pub data RunEnds (file : List ℕ) (cycles : ℕ) (before now : Outside) : End → Type 0 where
-  unread : Rose before.read_faults now.read_faults ⊎ Lacks before.files file → IsSilent before now → IsUnread before now →
-      RunEnds file cycles before now (stopped line.ReadFault)
-  refused : (bytes : List ℕ) (refusal : Refusal) → MayHave before.files file bytes → IsRefused bytes refusal → IsSilent before now → IsUnread before now →
-      RunEnds file cycles before now (stopped (line.Refused refusal))
-  no_memory : IsSilent before now → IsUnread before now → RunEnds file cycles before now (stopped line.NoMemory)
-  ran : (words : List ℕ) (t : State) (stop : Stop) → MayHave before.files file (scroll words) → length (scroll words) ≤ MOST_SCROLL_BYTES → Runs words cycles before now t stop →
-      RunEnds file cycles before now (end_of_run cycles t.cycles stop)
+-- how `run` of a file ends; until the scroll runs, input and output are untouched
+pub data RunEnds (file : List ℕ) (cycles : ℕ) (shelf_before shelf_now : Shelved) (before now : Streams) : End → Type 0 where
+  unread : Rose shelf_before.read_faults shelf_now.read_faults ⊎ Lacks shelf_before.files file → now ≡ before →
+      RunEnds file cycles shelf_before shelf_now before now (Stopped line.ReadFault)
+  refused : (bytes : List ℕ) (refusal : Refusal) → MayHave shelf_before.files file bytes → IsRefused bytes refusal → now ≡ before →
+      RunEnds file cycles shelf_before shelf_now before now (Stopped (line.Refused refusal))
+  no_memory : now ≡ before → RunEnds file cycles shelf_before shelf_now before now (Stopped line.NoMemory)
+  read : (words : List ℕ) (end : End) → MayHave shelf_before.files file (scroll words) → length (scroll words) ≤ MOST_SCROLL_BYTES → WordsEnd words cycles before now end →
+      RunEnds file cycles shelf_before shelf_now before now end

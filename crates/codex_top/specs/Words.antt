@@ -10,3 +10,7 @@ pub data Job : Type 0 where
 pub data Asks : List (List ℕ) → Job → Type 0 where
   run : (file : List ℕ) → Asks (codes "run" ∷ file ∷ []) (runs file MOST_CYCLES)
   run_for : (file number : List ℕ) (n : ℕ) → number ≡ decimal n → n ≤ MOST_CYCLES → Asks (codes "run" ∷ file ∷ number ∷ []) (runs file n)
+
+-- a job that a list of words may ask for
+abbrev pub IsAllowed : Job → Type 0
+IsAllowed (runs file cycles) = cycles ≤ MOST_CYCLES

@@ -1,11 +1,12 @@
 //! The program's one call: the words of a command line in, bytes and a status out.
 #![tactic(auto)]
 
+mod end;
 mod line;
-
+mod run;
 mod status;
-
+mod top;
 mod words;
 
 pub use status::Status;
-
+pub use top::codex;

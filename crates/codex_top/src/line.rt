@@ -96,7 +96,8 @@ impl Limit {
     }
 }
 
-const USAGE: &[u8] = b"usage: check F | eval F [PICKS [N]] | trace F PICKS N | compile F OUT | run F [N] | asm F OUT | dis F | debug F INPUT | selftest N\n";
+const USAGE: &[u8] =
+    b"usage: check F | eval F [PICKS [N]] | trace F PICKS N | compile F OUT | run F [N] | asm F OUT | dis F | debug F INPUT | selftest N\n";
 
 impl Line {
     /// The status that goes with the line.
@@ -137,7 +138,20 @@ impl Line {
                 let cycle = first.format(*cycle).as_bytes();
                 let count = second.format(limit.count()).as_bytes();
                 let most = third.format(limit.limit()).as_bytes();
-                put_all(err, &[b"limit ", name, b" at cycle ", cycle, b": ", count, b" over ", most, b"\n"])
+                put_all(
+                    err,
+                    &[
+                        b"limit ",
+                        name,
+                        b" at cycle ",
+                        cycle,
+                        b": ",
+                        count,
+                        b" over ",
+                        most,
+                        b"\n",
+                    ],
+                )
             }
             Line::Budget(cycles) => {
                 let cycles = first.format(*cycles).as_bytes();
