@@ -1,5 +1,5 @@
 -- What is true of every store stays true through each call.
-use Rattle.std.proofs.Common.{◌≡◌, ◌≢◌, ℕ, ◌+◌, ◌-◌, ◌^◌, ◌<◌, ◌≤◌, List, [], ◌∷◌, length, get_or, set, replicate, Option, Some, None, refl, sym, ap, subst, ◌∙◌, inl, inr, arith, get_or-set_same, get_or-set_other}
+use Rattle.std.proofs.Common.{◌≡◌, ◌≢◌, ℕ, ◌+◌, ◌-◌, ◌^◌, ◌<◌, ◌≤◌, List, [], length, set, replicate, Option, Some, None, refl, sym, ap, subst, ◌∙◌, inl, inr, arith, get_or-set_same, get_or-set_other}
 use Rattle.std.specs.Prelude.{slice_index, unwrap_or}
 use Rattle.std.specs.FinMap as map
 use Rattle.std.proofs.lemmas.Bool.{cases_eq, cases_lt}
@@ -7,7 +7,7 @@ use Rattle.std.proofs.lemmas.Option.{get_or_from_slice_get}
 use Rattle.std.proofs.lemmas.List.{get_or-replicate, get_or_past, set_past, length-set, length-replicate}
 use Rattle.umix_base.specs.declared.limits.Limits.{Limits}
 use Rattle.array_store.specs.declared.store.TheConstants.{MOST_ARRAYS, MOST_WORDS}
-use Rattle.um_word.specs.State.{Arrays, array_at, live_arrays, live_words}
+use Rattle.um_word.specs.State.{Arrays, array_at, live_words}
 use Rattle.um_word.specs.Rule.{IsOrderly, next_identifier, taken, returned}
 use Rattle.um_word.proofs.Arrays.{get-insert_same, get-insert_other}
 use Rattle.um_word.proofs.Live.{get-remove_same, get-remove_other, length_within_live}

@@ -1,11 +1,11 @@
 -- What the slots stand for at each identifier, and after a change of one slot.
-use Rattle.std.proofs.Common.{◌≡◌, ◌≢◌, ℕ, zero, suc, ◌+◌, ◌-◌, ◌<◌, ◌≤◌, List, [], ◌∷◌, ◌++◌, length, get_or, set, Option, Some, None, refl, sym, ap, ◌∙◌, inl, inr, arith}
+use Rattle.std.proofs.Common.{◌≡◌, ◌≢◌, ℕ, zero, suc, ◌+◌, ◌<◌, ◌≤◌, List, [], ◌∷◌, ◌++◌, length, get_or, set, Option, Some, None, refl, sym, ap, ◌∙◌, inl, inr, arith}
 use Rattle.std.specs.Prelude.{slice_get, unwrap_or, vec_len}
 use Rattle.std.specs.Global.{Vec}
 use Rattle.std.specs.FinMap as map
 use Rattle.std.proofs.lemmas.Bool.{cases_eq, cases_lt}
 use Rattle.std.proofs.lemmas.Option.{slice_get-get_or, slice_get_past}
-use Rattle.um_word.specs.State.{Arrays, array_at}
+use Rattle.um_word.specs.State.{array_at}
 use Rattle.um_word.proofs.Arrays.{get-insert_same, get-insert_other}
 use Rattle.um_word.proofs.Live.{same_arrays, get-remove_same, get-remove_other}
 use Rattle.array_store.specs.Slots.{arrays_from, slot_arrays}

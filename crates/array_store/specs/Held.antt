@@ -16,8 +16,12 @@ pub record Held : Type 0 where
 abbrev pub held_code : Coded Held
 held_code =
     code_by (Arrays × ((ℕ × List ℕ) × (ℕ × ℕ)))
-    (coded× (map.code coded_ℕ (coded_list coded_ℕ)) (coded× (coded× coded_ℕ (coded_list coded_ℕ)) (coded× coded_ℕ coded_ℕ)))
-    (λ h. (h.arrays, ((h.identifiers.made, h.identifiers.abandoned), (h.limits.arrays, h.limits.words))))
+    (coded× (map.code coded_ℕ (coded_list coded_ℕ))
+    (coded× (coded× coded_ℕ (coded_list coded_ℕ)) (coded× coded_ℕ coded_ℕ)))
+    (λ h. (
+      h.arrays,
+      ((h.identifiers.made, h.identifiers.abandoned), (h.limits.arrays, h.limits.words)),
+    ))
     (λ p. record {
       arrays = p.0;
       identifiers = record { made = p.1.0.0; abandoned = p.1.0.1 };

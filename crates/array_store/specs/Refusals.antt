@@ -28,7 +28,8 @@ words_with held size = live_words held.arrays + size
 
 -- both are within the limits
 abbrev pub FitsAllocation : Held → ℕ → Type 0
-FitsAllocation held size = (arrays_with held ≤ held.limits.arrays) × (words_with held size ≤ held.limits.words)
+FitsAllocation held size =
+    (arrays_with held ≤ held.limits.arrays) × (words_with held size ≤ held.limits.words)
 
 -- an Allocation of this many platters
 abbrev pub RefusesAllocation : Held → ℕ → StoreFault → Type 0
@@ -54,5 +55,6 @@ abbrev pub RefusesLoad : Held → ℕ → StoreFault → Type 0
 RefusesLoad held id Inactive = (1 ≤ id) × (map.get held.arrays id ≡ None)
 RefusesLoad held id (WordsFull n) =
     (1 ≤ id) × HasArray held id × (n ≡ words_loaded held id) × (held.limits.words < n)
-RefusesLoad held id Memory = (1 ≤ id) × HasArray held id × (words_loaded held id ≤ held.limits.words)
+RefusesLoad held id Memory =
+    (1 ≤ id) × HasArray held id × (words_loaded held id ≤ held.limits.words)
 RefusesLoad held id _ = ⊥

@@ -28,7 +28,8 @@ held_of s = record {
   limits = s.limits;
 }
 
--- The words are counted, there is room for the return of each identifier, and the rest is true of every store.
+-- The words are counted, there is room for the return of each identifier, and the rest is true of
+-- every store.
 pub record IsSound (s : Inside) : Type 0 where
   pub held : IsHeld (held_of s)
   pub words : s.words ≡ live_words (slot_arrays s.slots.items)

@@ -4,6 +4,8 @@
 
 mod fault;
 mod store;
+#[cfg(test)]
+mod tests;
 
 pub use fault::StoreFault;
 pub use store::{MOST_ARRAYS, MOST_WORDS, Store};

@@ -109,14 +109,15 @@ impl Store {
         Ok(())
     }
 
-    /// A new array of this many platters, all 0, and its identifier, which is the one abandoned last,
-    /// or one more than the number made. `ArraysFull`, then `WordsFull`, then `Memory`.
+    /// A new array of this many platters, all 0, and its identifier: the one abandoned last and not
+    /// reused since, or one more than the number made. `ArraysFull`, then `WordsFull`, then `Memory`.
     ///
     /// In time linear in the platters. It sets room aside for the identifier's return.
     pub fn allocate(&mut self, size: u32) -> Result<u32, StoreFault>
         ensures ok { IfOk result (λ id. id ≡ next_identifier self.old.identifiers) }
         ensures made { OnOk result (self.new ≡ record self.old {
-          arrays = map.insert self.old.arrays (next_identifier self.old.identifiers) (replicate size 0);
+          arrays =
+              map.insert self.old.arrays (next_identifier self.old.identifiers) (replicate size 0);
           identifiers = taken self.old.identifiers;
         }) }
         ensures fits { OnOk result (FitsAllocation self.old size) }
@@ -210,7 +211,8 @@ impl Store {
         }
     }
 
-    /// The number of arrays, without array 0, and of words, with those of array 0. In constant time.
+    /// The number of arrays, without array 0, and of words, with those of array 0. In constant
+    /// time.
     pub fn live(&self) -> (u64, u64)
         ensures arrays { result.0 ≡ live_arrays self.now.arrays }
         ensures words { result.1 ≡ live_words self.now.arrays }
@@ -265,7 +267,8 @@ fn write_word(slots: &mut Vec<Option<Vec<u32>>>, id: u32, at: u32, word: u32)
 // The array is there with these words.
 fn put_array(slots: &mut Vec<Option<Vec<u32>>>, id: u32, words: Vec<u32>)
     requires { id < vec_len slots.old }
-    ensures arrays { slot_arrays slots.new.items ≡ map.insert (slot_arrays slots.old.items) id words.items }
+    ensures arrays { slot_arrays slots.new.items
+        ≡ map.insert (slot_arrays slots.old.items) id words.items }
     ensures len { vec_len slots.new ≡ vec_len slots.old }
 {
     slots[id as usize] = Some(words);

@@ -1,6 +1,6 @@
 -- What the rule of identifiers keeps through each change of the arrays.
-use Rattle.std.proofs.Common.{◌≡◌, ◌≢◌, ℕ, zero, suc, ◌+◌, ◌-◌, ◌<◌, ◌≤◌, ◌⊎◌, List, [], ◌∷◌, ◌++◌, length, get_or, Bool, true, false, Option, Some, None, refl, sym, ap, subst, ◌∙◌, inl, inr, arith}
-use Rattle.std.specs.Prelude.{All, Contains, IsSome, is_some, nat_eq, take, slice_get, unwrap_or}
+use Rattle.std.proofs.Common.{◌≡◌, ◌≢◌, ℕ, suc, ◌+◌, ◌-◌, ◌<◌, ◌≤◌, ◌⊎◌, List, [], ◌∷◌, ◌++◌, length, get_or, false, Option, Some, None, refl, sym, ap, subst, ◌∙◌, inl, inr, arith}
+use Rattle.std.specs.Prelude.{Contains, IsSome, is_some, nat_eq, take, slice_get, unwrap_or}
 use Rattle.std.specs.List.{IsDistinct}
 use Rattle.std.specs.Ordering.{nat_cmp}
 use Rattle.std.specs.FinMap as map
@@ -10,7 +10,7 @@ use Rattle.std.proofs.lemmas.List.Elements.{All-push, All-pop, All-contains, Con
 use Rattle.std.proofs.lemmas.Map.Keys.{apart_from_distinct, IsDistinct-from_apart}
 use Rattle.umix_base.specs.declared.limits.Limits.{Limits}
 use Rattle.um_word.specs.State.{Arrays, live_arrays, live_words}
-use Rattle.um_word.specs.Rule.{Identifiers, IsOrderly, none_made, next_identifier, taken, taken_from, returned}
+use Rattle.um_word.specs.Rule.{Identifiers, IsOrderly, none_made, next_identifier, taken, returned}
 use Rattle.um_word.proofs.Arrays.{get-insert_same, get-insert_other, len-insert_new, len-insert_old}
 use Rattle.um_word.proofs.Live.{get-remove_same, get-remove_other, live_words-empty, live_words-insert_new, live_words-insert_old, live_words-remove, len-remove_there, len_positive}
 

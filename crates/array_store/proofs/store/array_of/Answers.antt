@@ -1,4 +1,4 @@
-use Rattle.std.proofs.Common.{◌≡◌, Some, sym, ap, ◌∙◌}
+use Rattle.std.proofs.Common.{Some, sym, ap, ◌∙◌}
 use Rattle.array_store.proofs.SlotLemmas.{get-slot_read, get-slot_past, words_of}
 use Rattle.array_store.proofs.store.array_of.Goals as goal
 

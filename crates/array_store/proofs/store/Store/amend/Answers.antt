@@ -1,5 +1,4 @@
-use Rattle.std.proofs.Common.{◌≡◌, ℕ, ◌+◌, ◌-◌, ◌≤◌, List, Some, length, set, length-set, sym, ap, subst, ◌∙◌, arith}
-use Rattle.std.specs.Prelude.{vec_capacity}
+use Rattle.std.proofs.Common.{◌≡◌, ◌-◌, set, length-set, sym, ap, subst, arith}
 use Rattle.std.specs.FinMap as map
 use Rattle.um_word.specs.State.{array_at, live_words}
 use Rattle.um_word.proofs.Live.{live_words-insert_old}

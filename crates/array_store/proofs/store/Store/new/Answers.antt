@@ -1,10 +1,9 @@
-use Rattle.std.proofs.Common.{◌≡◌, ℕ, ◌+◌, ◌-◌, ◌^◌, ◌<◌, ◌≤◌, List, [], ◌∷◌, ◌++◌, Option, Some, length, refl, sym, ap, subst, ◌∙◌, arith}
-use Rattle.std.specs.Prelude.{slice_index}
+use Rattle.std.proofs.Common.{◌≡◌, ◌-◌, ◌≤◌, [], ◌∷◌, ◌++◌, Some, length, sym, ap, subst, ◌∙◌, arith}
 use Rattle.std.specs.Ordering.{nat_cmp}
 use Rattle.std.specs.FinMap as map
 use Rattle.um_word.specs.State.{Arrays, live_words}
 use Rattle.um_word.proofs.Live.{live_words-empty, live_words-insert_new}
-use Rattle.array_store.specs.Held.{Held, IsHeld, new_held}
+use Rattle.array_store.specs.Held.{IsHeld}
 use Rattle.array_store.specs.Slots.{slot_arrays}
 use Rattle.array_store.proofs.HeldLemmas.{held-new, Fit}
 use Rattle.array_store.proofs.SlotLemmas.{slot_arrays-one}
