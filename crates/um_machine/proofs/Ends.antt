@@ -9,7 +9,7 @@ use Rattle.um_word.specs.Table.{Next, Goes, Stops, Fault, cycle, op_under}
 use Rattle.um_word.specs.Run.{Stands, Failed}
 use Rattle.um_word.specs.Rule.{next_identifier, ruled}
 use Rattle.um_machine.specs.declared.stop.Stop.{Stop}
-use Rattle.um_machine.specs.declared.stop.Stop.TheVariants.{Halted, Budget, NotBuilt, ReadFault, WriteFault, Memory}
+use Rattle.um_machine.specs.declared.stop.Stop.TheVariants.{Halted, Budget, ReadFault, WriteFault, Memory}
 use Rattle.um_machine.specs.Core.{Core, state_of}
 use Rattle.um_machine.specs.Outside.{MayRest, MayHold}
 use Rattle.um_machine.specs.Stops.{stop_of, end_of, MayFail}
@@ -54,13 +54,13 @@ of_table table.FingerOutside n old new s t e = e
 of_table _ n old new s t e = e
 
 -- what isn't of the table ends a run early
-early : (op : Option Op) (stop : Stop) (n : ℕ) (old new : Core) (s t : State) →
-    MayFail op stop → EndsEarly n old new s t stop → RunEnds n old new s t stop
-early (Some (Input c)) ReadFault n old new s t f e = e
-early (Some (Out c)) WriteFault n old new s t f e = e
-early (Some (Alloc b c)) Memory n old new s t f e = e
-early (Some (Load b c)) Memory n old new s t f e = e
-early op stop n old new s t f e = absurd f
+early : (registers : List ℕ) (op : Option Op) (stop : Stop) (n : ℕ) (old new : Core) (s t : State) →
+    MayFail registers op stop → EndsEarly n old new s t stop → RunEnds n old new s t stop
+early registers (Some (Input c)) ReadFault n old new s t f e = e
+early registers (Some (Out c)) WriteFault n old new s t f e = e
+early registers (Some (Alloc b c)) Memory n old new s t f e = e
+early registers (Some (Load b c)) Memory n old new s t f e = e
+early registers op stop n old new s t f e = absurd f
 
 -- a run whose next cycle failed
 module _ (k n : ℕ) (first old : Core) (s : State) (left : List ℕ) (before now : Option (List ℕ)) (fewer : k < n)
@@ -96,13 +96,13 @@ module _ (k n : ℕ) (first old : Core) (s : State) (left : List ℕ) (before no
   }
 
   at_failure : (stop : Stop) (t : State) → cycle (state_of old left m.sent) old.limits (next_identifier old.identifiers) ≡ Goes t →
-      MayFail (op_under (state_of old [] [])) stop × Wrote stop (now ≡ before) (MayHold now t.out) → Ended n first old s left now stop
+      MayFail old.registers (op_under (state_of old [] [])) stop × Wrote stop (now ≡ before) (MayHold now t.out) → Ended n first old s left now stop
   at_failure stop t q x =
       let r = remains stop t x.1 in
       record {
         sent = r.0;
         holds = r.1;
-        ends = early (op_under (state_of old [] [])) stop n first old s (state_of old left r.0) x.0 (record {
+        ends = early old.registers (op_under (state_of old [] [])) stop n first old s (state_of old left r.0) x.0 (record {
           made = k;
           fewer = fewer;
           at = state_of old left m.sent;
@@ -117,11 +117,6 @@ module _ (k n : ℕ) (first old : Core) (s : State) (left : List ℕ) (before no
 
   go : (stop : Stop) (r : Next) → cycle (state_of old left m.sent) old.limits (next_identifier old.identifiers) ≡ r →
       Meets (op_under (state_of old [] [])) old left before now r (Err stop) → Ended n first old s left now stop
-  go NotBuilt r q x = record {
-    sent = m.sent;
-    holds = held x.1;
-    ends = record { made = k; fewer = fewer; stands = m.stands; running = running; unbuilt = x.0 };
-  }
   go stop (Goes t) q x = at_failure stop t q x
   go stop (Stops fault) q x = at_fault fault stop q x
 

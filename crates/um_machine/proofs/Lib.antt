@@ -1,4 +1,4 @@
-pub mod Zero
+pub mod Whole
 pub mod Bytes
 pub mod Rests
 pub mod Cycles

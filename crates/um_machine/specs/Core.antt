@@ -1,10 +1,10 @@
 -- The machine as its contracts see it.
-use Rattle.std.specs.Prelude.{ℕ, Bool, false, List, replicate, refl}
+use Rattle.std.specs.Prelude.{ℕ, ◌≤◌, Bool, false, List, replicate, refl}
 use Rattle.std.specs.Coded.{Coded, code_by, coded×, coded_ℕ, coded_list, coded_bool}
 use Rattle.std.specs.FinMap as map
 use Rattle.umix_base.specs.declared.limits.Limits.{Limits}
-use Rattle.um_word.specs.State.{Arrays, State}
-use Rattle.um_word.specs.Rule.{Identifiers, none_made}
+use Rattle.um_word.specs.State.{Arrays, State, IsWellFormed}
+use Rattle.um_word.specs.Rule.{Identifiers, IsOrderly, none_made}
 
 -- a state without the bytes of its input and its output, with the identifiers and the limits of its run
 pub record Core : Type 0 where
@@ -59,3 +59,11 @@ core_code =
       halted = p.1.1.1.1.1.1;
     })
     (λ _. refl)
+
+-- What is true of every machine: its state is well formed, and its identifiers and arrays are those of the
+-- rule, within limits that are at most the greatest.
+pub record IsWhole (m : Core) : Type 0 where
+  pub well_formed : (rest out : List ℕ) → IsWellFormed (state_of m rest out)
+  pub orderly : IsOrderly m.limits m.identifiers m.arrays
+  pub arrays_limit : m.limits.arrays ≤ 16777216
+  pub words_limit : m.limits.words ≤ 268435456

@@ -1,14 +1,15 @@
 -- What the machine's own calls of one cycle say, by the row of the operator. Public clauses are in Runs.
-use Rattle.std.specs.Prelude.{◌≡◌, ℕ, ◌⊎◌, List, ◌∷◌, Option, Some, None, Result, Ok, Err, slice_index}
+use Rattle.std.specs.Prelude.{◌≡◌, ℕ, ◌+◌, ◌⊎◌, List, [], ◌∷◌, Option, Some, None, Result, Ok, Err, OnOk, OnErr, slice_index}
 use Rattle.um_word.specs.declared.op.Op.{Op}
 use Rattle.um_word.specs.declared.op.Op.TheVariants.{Input}
-use Rattle.um_word.specs.Table.{Next, Goes, Stops}
+use Rattle.um_word.specs.Table.{Next, Goes, Stops, row, moved}
+use Rattle.um_word.specs.Rule.{next_identifier, left_by}
 use Rattle.um_machine.specs.declared.stop.Turn.{Turn}
 use Rattle.um_machine.specs.declared.stop.Stop.{Stop}
-use Rattle.um_machine.specs.declared.stop.Stop.TheVariants.{WriteFault, NotBuilt}
+use Rattle.um_machine.specs.declared.stop.Stop.TheVariants.{ReadFault, WriteFault}
 use Rattle.um_machine.specs.Core.{Core, state_of}
 use Rattle.um_machine.specs.Outside.{MayHold}
-use Rattle.um_machine.specs.Stops.{stop_of, turn_of, MayFail, IsUnbuilt}
+use Rattle.um_machine.specs.Stops.{stop_of, turn_of, MayFail}
 
 -- a cycle that failed has written nothing, or at a failed Output perhaps its byte
 abbrev pub Wrote : Stop → (nothing byte : Type 0) → Type 0
@@ -18,9 +19,8 @@ Wrote stop nothing byte = nothing
 -- An answer and what it leaves, by what the cycle comes to: the machine, the rest of the input, and what
 -- the sink held before and holds now.
 abbrev pub Meets : Option Op → Core → List ℕ → Option (List ℕ) → Option (List ℕ) → Next → Result Turn Stop → Type 0
-Meets op new left before now next (Err NotBuilt) = IsUnbuilt op × (now ≡ before)
 Meets op new left before now (Goes t) (Ok turn) = (turn ≡ turn_of t.halted) × (t ≡ state_of new left t.out) × MayHold now t.out
-Meets op new left before now (Goes t) (Err stop) = MayFail op stop × Wrote stop (now ≡ before) (MayHold now t.out)
+Meets op new left before now (Goes t) (Err stop) = MayFail new.registers op stop × Wrote stop (now ≡ before) (MayHold now t.out)
 Meets op new left before now (Stops fault) (Ok turn) = ⊥
 Meets op new left before now (Stops fault) (Err stop) = (stop ≡ stop_of fault) × (now ≡ before)
 
@@ -30,3 +30,21 @@ abbrev pub rest_before : Result Turn Stop → Option Op → Option (List ℕ) �
 rest_before (Ok turn) (Some (Input c)) None registers left = slice_index registers c ∷ left
 rest_before (Ok turn) (Some (Input c)) (Some told) registers left = told
 rest_before result op before registers left = left
+
+-- the same of a call that asks neither the source nor the sink
+abbrev pub MeetsAlone : Op → Core → (rest out : List ℕ) → Next → Result (Unit {0}) Stop → Type 0
+MeetsAlone op new rest out (Goes t) (Ok done) = t ≡ state_of new rest out
+MeetsAlone op new rest out (Goes t) (Err stop) = MayFail new.registers (Some op) stop
+MeetsAlone op new rest out (Stops fault) (Ok done) = ⊥
+MeetsAlone op new rest out (Stops fault) (Err stop) = stop ≡ stop_of fault
+
+-- what one operator's call that asks neither of them leaves
+pub record Comes (op : Op) (old new : Core) (result : Result (Unit {0}) Stop) : Type 0 where
+  pub row : (rest out : List ℕ) →
+      MeetsAlone op new rest out (row op old.limits (next_identifier old.identifiers) (moved (state_of old rest out))) result
+  pub identifiers : OnOk result (new.identifiers ≡ left_by (Some op) (state_of old [] []) old.identifiers)
+  pub limits : new.limits ≡ old.limits
+  pub halted : new.halted ≡ old.halted
+  pub counted : OnOk result (new.cycles ≡ old.cycles + 1)
+  pub kept : OnErr result (new ≡ old)
+  pub inside : (result ≡ Err ReadFault → ⊥) × (result ≡ Err WriteFault → ⊥)

@@ -7,10 +7,10 @@ use Rattle.um_word.specs.Rule.{Identifiers, next_identifier, ruled}
 use Rattle.um_machine.specs.declared.stop.Turn.{Turn}
 use Rattle.um_machine.specs.declared.stop.Turn.TheVariants as turns
 use Rattle.um_machine.specs.declared.stop.Stop.{Stop}
-use Rattle.um_machine.specs.declared.stop.Stop.TheVariants.{Halted, Budget, NotBuilt, ReadFault, WriteFault, Memory}
+use Rattle.um_machine.specs.declared.stop.Stop.TheVariants.{Halted, Budget, ReadFault, WriteFault, Memory}
 use Rattle.um_machine.specs.Core.{Core, state_of}
 use Rattle.um_machine.specs.Outside.{MayRest, MayHold}
-use Rattle.um_machine.specs.Stops.{stop_of, end_of, MayFail, IsUnbuilt}
+use Rattle.um_machine.specs.Stops.{stop_of, end_of, MayFail}
 
 -- a machine, with what its source and its sink tell, may be taken to stand in this state
 pub record MayStandIn (machine : Core) (input output : Option (List ℕ)) (s : State) : Type 0 where
@@ -44,22 +44,13 @@ pub record EndsEarly (n : ℕ) (old new : Core) (s t : State) (stop : Stop) : Ty
   pub at : State
   pub stands : ruled old.limits made old.identifiers s ≡ Stands at new.identifiers
   pub running : at.halted ≡ false
-  pub fails : MayFail (op_under at) stop
+  pub fails : MayFail at.registers (op_under at) stop
   pub next : State
   pub goes : cycle at old.limits (next_identifier new.identifiers) ≡ Goes next
   pub remains : Remains stop at next t
 
--- fewer than n cycles were made, and the next operator isn't built yet
-pub record EndsUnbuilt (n : ℕ) (old new : Core) (s t : State) : Type 0 where
-  pub made : ℕ
-  pub fewer : made < n
-  pub stands : ruled old.limits made old.identifiers s ≡ Stands t new.identifiers
-  pub running : t.halted ≡ false
-  pub unbuilt : IsUnbuilt (op_under t)
-
 -- up to n cycles with the identifiers of the rule, from s to t
 abbrev pub RunEnds : ℕ → (old new : Core) → (s t : State) → Stop → Type 0
-RunEnds n old new s t NotBuilt = EndsUnbuilt n old new s t
 RunEnds n old new s t ReadFault = EndsEarly n old new s t ReadFault
 RunEnds n old new s t WriteFault = EndsEarly n old new s t WriteFault
 RunEnds n old new s t Memory = EndsEarly n old new s t Memory

@@ -1,13 +1,13 @@
 -- Why a machine stops, beside its table.
-use Rattle.std.specs.Prelude.{◌≡◌, ℕ, List, Bool, true, false, Option, Some, None, codes}
+use Rattle.std.specs.Prelude.{ℕ, ◌≤◌, List, Bool, true, false, Option, Some, codes, slice_index}
 use Rattle.um_word.specs.declared.op.Op.{Op}
-use Rattle.um_word.specs.declared.op.Op.TheVariants.{Index, Amend, Alloc, Abandon, Out, Input, Load}
+use Rattle.um_word.specs.declared.op.Op.TheVariants.{Alloc, Out, Input, Load}
 use Rattle.um_word.specs.Table.{Fault}
 use Rattle.um_word.specs.Table as table
 use Rattle.um_machine.specs.declared.stop.Turn.{Turn}
 use Rattle.um_machine.specs.declared.stop.Turn.TheVariants as turns
 use Rattle.um_machine.specs.declared.stop.Stop.{Stop}
-use Rattle.um_machine.specs.declared.stop.Stop.TheVariants.{Halted, Budget, FingerOutside, BadOperator, IndexInactive, IndexOutside, AmendInactive, AmendOutside, DivideByZero, AbandonZero, AbandonInactive, LoadInactive, OutputTooLarge, ArraysFull, WordsFull, NotBuilt, ReadFault, WriteFault, Memory}
+use Rattle.um_machine.specs.declared.stop.Stop.TheVariants.{Halted, Budget, FingerOutside, BadOperator, IndexInactive, IndexOutside, AmendInactive, AmendOutside, DivideByZero, AbandonZero, AbandonInactive, LoadInactive, OutputTooLarge, ArraysFull, WordsFull, ReadFault, WriteFault, Memory}
 
 -- the stop of a fault of the table
 abbrev pub stop_of : Fault → Stop
@@ -35,27 +35,14 @@ abbrev pub end_of : Bool → Stop
 end_of true = Halted
 end_of false = Budget
 
--- operators that this machine runs; the others come with the store of arrays
-abbrev pub is_built : Op → Bool
-is_built (Index a b c) = false
-is_built (Amend a b c) = false
-is_built (Alloc b c) = false
-is_built (Abandon c) = false
-is_built (Load b c) = false
-is_built _ = true
-
--- at these operators alone a cycle may fail for another cause than the table's
-abbrev pub MayFail : Option Op → Stop → Type 0
-MayFail (Some (Input c)) ReadFault = Unit {0}
-MayFail (Some (Out c)) WriteFault = Unit {0}
-MayFail (Some (Alloc b c)) Memory = Unit {0}
-MayFail (Some (Load b c)) Memory = Unit {0}
-MayFail op stop = ⊥
-
--- the operator is one that this machine doesn't run yet
-abbrev pub IsUnbuilt : Option Op → Type 0
-IsUnbuilt None = ⊥
-IsUnbuilt (Some op) = is_built op ≡ false
+-- With these registers, at these operators alone a cycle may fail for another cause than the table's. A
+-- Load of array 0 takes no memory.
+abbrev pub MayFail : List ℕ → Option Op → Stop → Type 0
+MayFail registers (Some (Input c)) ReadFault = Unit {0}
+MayFail registers (Some (Out c)) WriteFault = Unit {0}
+MayFail registers (Some (Alloc b c)) Memory = Unit {0}
+MayFail registers (Some (Load b c)) Memory = 1 ≤ slice_index registers b
+MayFail registers op stop = ⊥
 
 -- the name of a stop, as it is printed
 abbrev pub name_of : Stop → List ℕ
@@ -74,7 +61,6 @@ name_of LoadInactive = codes "LoadInactive"
 name_of OutputTooLarge = codes "OutputTooLarge"
 name_of (ArraysFull count) = codes "ArraysFull"
 name_of (WordsFull count) = codes "WordsFull"
-name_of NotBuilt = codes "NotBuilt"
 name_of ReadFault = codes "ReadFault"
 name_of WriteFault = codes "WriteFault"
 name_of Memory = codes "Memory"

@@ -1,18 +1,18 @@
 //! The machine and its calls.
 
 ghost use Rattle.std.specs.Prelude.{◌≡◌, ◌<◌, ◌≤◌, ◌+◌, ◌^◌, ◌⊎◌, ℕ, List, [], slice_get, slice_index, slice_set, false, length, is_some, IfSome, IfOk, OnOk, OnErr, IfErr, Some, Err};
-ghost use Rattle.std.specs.FinMap as map;
 ghost use Rattle.um_word.specs.Operators.{IsEncodable};
-ghost use Rattle.um_word.specs.State.{array_at};
+ghost use Rattle.um_word.specs.State.{array_at, live_arrays, live_words};
 ghost use Rattle.um_word.specs.Table.{row, moved, cycle, op_under};
 ghost use Rattle.um_word.specs.Rule.{next_identifier, left_by, identifiers_left};
-ghost use Rattle.um_machine.specs.Core.{Core, state_of, machine_of};
+ghost use Rattle.um_machine.specs.Core.{state_of, machine_of, IsWhole};
 ghost use Rattle.um_machine.specs.Outside.{MayRest, MayHold, IsUsed};
 ghost use Rattle.um_machine.specs.Stops.{turn_of};
-ghost use Rattle.um_machine.specs.Rows.{Meets, rest_before};
+ghost use Rattle.um_machine.specs.Rows.{Meets, Comes, rest_before};
 ghost use Rattle.um_machine.specs.Runs.{MayStandIn, Leads, RunEnds, CycleEnds};
 
 use crate::{Stop, Turn};
+use array_store::{Store, StoreFault};
 use std::alloc::Global;
 use std::marker::Model;
 use um_word::{Op, decode};
@@ -21,8 +21,7 @@ use umix_base::{Failed, Limits, Sink, Source};
 /// A machine, seen as its state without input and output, its identifiers and its limits.
 #[derive(Drop)]
 pub struct Machine {
-    words: Vec<u32>,
-    limits: Limits,
+    store: Store,
     registers: [u32; 8],
     finger: u32,
     cycles: u64,
@@ -30,50 +29,60 @@ pub struct Machine {
 }
 
 impl Model for Machine {
-    ghost use Rattle.std.specs.Prelude.{◌≤◌, ◌^◌, vec_len};
-    ghost use Rattle.um_word.specs.Rule.{none_made};
-    ghost use Rattle.um_machine.specs.Core.{Core, core_code, zero_array};
+    ghost use Rattle.um_machine.specs.Core.{Core, core_code};
 
     ghost Value = { Core };
 
     ghost coded = { core_code };
 
-    ghost view = { λ m. record { registers = m.registers; finger = m.finger; arrays = zero_array m.words.items; identifiers = none_made; limits = m.limits; cycles = m.cycles; halted = m.halted } };
-
-    ghost invariant = { λ m. vec_len m.words ≤ 2 ^ 28 };
+    ghost view = { λ m. record {
+      registers = m.registers;
+      finger = m.finger;
+      arrays = m.store.arrays;
+      identifiers = m.store.identifiers;
+      limits = m.store.limits;
+      cycles = m.cycles;
+      halted = m.halted;
+    } };
 }
 
-// a word of a list, if there is one
-fn word_at(words: &[u32], at: u32) -> Option<u32>
-    ensures value { result ≡ slice_get words.now at }
-    ensures within { IfSome result (λ _. at < length words.now) }
+// what the type says of the registers
+fn registers_fit(registers: &[u32; 8])
+    ensures eight { length registers.now ≡ 8 }
+    ensures each { (k : ℕ) → slice_index registers.now k < 2 ^ 32 }
 {
-    words.get(at as usize).copied()
+    each_fits(registers);
+}
+
+fn each_fits(words: &[u32])
+    ensures { (k : ℕ) → slice_index words.now k < 2 ^ 32 }
+{
+    let _ = words;
 }
 
 impl Machine {
     /// A machine at the start of the run of these words: registers and finger 0, array 0 the words, and no
     /// other array. `WordsFull` exactly where there are more words than the limit. The words are not copied.
     /// See "The start of a run" in docs/MACHINE.md.
-    pub fn new(_alloc: Global, words: Vec<u32>, limits: Limits) -> Result<Machine, Stop>
+    pub fn new(alloc: Global, words: Vec<u32>, limits: Limits) -> Result<Machine, Stop>
         requires arrays { limits.arrays ≤ 16777216 }
         requires words { limits.words ≤ 268435456 }
         ensures machine { IfOk result (λ machine. machine ≡ machine_of words.items limits) }
         ensures fits { OnOk result (length words.items ≤ limits.words) }
         ensures fault { IfErr result (λ stop. (stop ≡ Stop.Memory) ⊎ ((stop ≡ Stop.WordsFull (length words.items)) × (limits.words < length words.items))) }
+        ensures memory { result ≡ Err Stop.Memory → length words.items ≤ limits.words }
     {
-        let count = words.len() as u64;
-        if count > limits.words {
-            return Err(Stop::WordsFull(count));
+        match Store::new(alloc, words, limits) {
+            Ok(store) => Ok(Machine {
+                store,
+                registers: [0; 8],
+                finger: 0,
+                cycles: 0,
+                halted: false,
+            }),
+            Err(StoreFault::WordsFull(count)) => Err(Stop::WordsFull(count)),
+            Err(_) => Err(Stop::Memory),
         }
-        Ok(Machine {
-            words,
-            limits,
-            registers: [0; 8],
-            finger: 0,
-            cycles: 0,
-            halted: false,
-        })
     }
 
     /// The register of this number, which is below 8. Takes no memory.
@@ -98,6 +107,26 @@ impl Machine {
         self.cycles
     }
 
+    /// The platter at this offset of an array, from 0. `None` exactly where there is no such array, or it has
+    /// no such platter. Constant time, and it takes no memory.
+    pub fn word(&self, id: u32, at: u32) -> Option<u32>
+        ensures value { result ≡ slice_get (array_at self.now.arrays id) at }
+        ensures short { IfSome result (λ _. at < 2 ^ 28) }
+    {
+        self.store.index(id, at).ok()
+    }
+
+    /// The number of arrays, without array 0, and of words, with those of array 0. Constant time, and it takes
+    /// no memory.
+    pub fn live(&self) -> (u64, u64)
+        ensures arrays { result.0 ≡ live_arrays self.now.arrays }
+        ensures words { result.1 ≡ live_words self.now.arrays }
+        ensures whole { IsWhole self.now }
+    {
+        registers_fit(&self.registers);
+        self.store.live()
+    }
+
     fn is_halted(&self) -> bool
         ensures { result ≡ self.now.halted }
     {
@@ -112,15 +141,6 @@ impl Machine {
         self.registers[k as usize] = value;
     }
 
-    // a word of array 0
-    #[tactic(auto, using(crate::proofs::Zero::zero_words))]
-    fn word_of_zero(&self, at: u32) -> Option<u32>
-        ensures value { result ≡ slice_get (array_at self.now.arrays 0) at }
-        ensures short { IfSome result (λ _. at < 2 ^ 28) }
-    {
-        word_at(&self.words, at)
-    }
-
     // the finger moves on, and the cycle is counted
     fn advance(&mut self)
         requires finger { self.old.finger + 1 < 2 ^ 32 }
@@ -129,6 +149,95 @@ impl Machine {
     {
         self.finger += 1;
         self.cycles += 1;
+    }
+
+    // A becomes the platter at offset C of array B
+    fn index(&mut self, a: u8, b: u8, c: u8) -> Result<(), Stop>
+        requires registers { (a < 8) × (b < 8) × (c < 8) }
+        requires finger { self.old.finger + 1 < 2 ^ 32 }
+        requires cycles { self.old.cycles + 1 < 2 ^ 64 }
+        ensures { Comes (Op.Index a b c) self.old self.new result }
+    {
+        let word = match self.store.index(self.register(b), self.register(c)) {
+            Ok(word) => word,
+            Err(StoreFault::Inactive) => return Err(Stop::IndexInactive),
+            Err(_) => return Err(Stop::IndexOutside),
+        };
+        self.advance();
+        self.set(a, word);
+        Ok(())
+    }
+
+    // the platter at offset B of array A becomes C
+    fn amend(&mut self, a: u8, b: u8, c: u8) -> Result<(), Stop>
+        requires registers { (a < 8) × (b < 8) × (c < 8) }
+        requires finger { self.old.finger + 1 < 2 ^ 32 }
+        requires cycles { self.old.cycles + 1 < 2 ^ 64 }
+        ensures { Comes (Op.Amend a b c) self.old self.new result }
+    {
+        let (id, at, word) = (self.register(a), self.register(b), self.register(c));
+        match self.store.amend(id, at, word) {
+            Ok(()) => {}
+            Err(StoreFault::Inactive) => return Err(Stop::AmendInactive),
+            Err(_) => return Err(Stop::AmendOutside),
+        }
+        self.advance();
+        Ok(())
+    }
+
+    // a new array of C platters, whose identifier goes to B
+    fn allocate(&mut self, b: u8, c: u8) -> Result<(), Stop>
+        requires registers { (b < 8) × (c < 8) }
+        requires finger { self.old.finger + 1 < 2 ^ 32 }
+        requires cycles { self.old.cycles + 1 < 2 ^ 64 }
+        ensures { Comes (Op.Alloc b c) self.old self.new result }
+    {
+        let size = self.register(c);
+        let id = match self.store.allocate(size) {
+            Ok(id) => id,
+            Err(StoreFault::ArraysFull(count)) => return Err(Stop::ArraysFull(count)),
+            Err(StoreFault::WordsFull(count)) => return Err(Stop::WordsFull(count)),
+            Err(_) => return Err(Stop::Memory),
+        };
+        self.advance();
+        self.set(b, id);
+        Ok(())
+    }
+
+    // array C is no more
+    fn abandon(&mut self, c: u8) -> Result<(), Stop>
+        requires registers { c < 8 }
+        requires finger { self.old.finger + 1 < 2 ^ 32 }
+        requires cycles { self.old.cycles + 1 < 2 ^ 64 }
+        ensures { Comes (Op.Abandon c) self.old self.new result }
+    {
+        let id = self.register(c);
+        match self.store.abandon(id) {
+            Ok(()) => {}
+            Err(StoreFault::Zero) => return Err(Stop::AbandonZero),
+            Err(_) => return Err(Stop::AbandonInactive),
+        }
+        self.advance();
+        Ok(())
+    }
+
+    // a duplicate of array B takes the place of array 0, and the finger becomes C
+    fn load(&mut self, b: u8, c: u8) -> Result<(), Stop>
+        requires registers { (b < 8) × (c < 8) }
+        requires finger { self.old.finger + 1 < 2 ^ 32 }
+        requires cycles { self.old.cycles + 1 < 2 ^ 64 }
+        ensures { Comes (Op.Load b c) self.old self.new result }
+    {
+        let (id, finger) = (self.register(b), self.register(c));
+        match self.store.load(id) {
+            Ok(()) => {}
+            Err(StoreFault::Inactive) => return Err(Stop::LoadInactive),
+            Err(StoreFault::WordsFull(count)) => return Err(Stop::WordsFull(count)),
+            Err(_) => return Err(Stop::Memory),
+        }
+        self.advance();
+        self.finger = finger;
+        Ok(())
     }
 
     // the operator's row of the table
@@ -166,6 +275,14 @@ impl Machine {
                 }
                 Ok(Turn::Running)
             }
+            Op::Index(a, b, c) => {
+                self.index(a, b, c)?;
+                Ok(Turn::Running)
+            }
+            Op::Amend(a, b, c) => {
+                self.amend(a, b, c)?;
+                Ok(Turn::Running)
+            }
             Op::Add(a, b, c) => {
                 let value = self.register(b).wrapping_add(self.register(c));
                 self.advance();
@@ -199,6 +316,14 @@ impl Machine {
                 self.halted = true;
                 Ok(Turn::Halted)
             }
+            Op::Alloc(b, c) => {
+                self.allocate(b, c)?;
+                Ok(Turn::Running)
+            }
+            Op::Abandon(c) => {
+                self.abandon(c)?;
+                Ok(Turn::Running)
+            }
             Op::Out(c) => {
                 let value = self.register(c);
                 if value > 255 {
@@ -225,13 +350,14 @@ impl Machine {
                 }
                 Err(Failed) => Err(Stop::ReadFault),
             },
+            Op::Load(b, c) => {
+                self.load(b, c)?;
+                Ok(Turn::Running)
+            }
             Op::Set(a, value) => {
                 self.advance();
                 self.set(a, value);
                 Ok(Turn::Running)
-            }
-            Op::Index(..) | Op::Amend(..) | Op::Alloc(..) | Op::Abandon(_) | Op::Load(..) => {
-                Err(Stop::NotBuilt)
             }
         }
     }
@@ -254,7 +380,7 @@ impl Machine {
         ensures input { IsUsed (I.rest input.old) (I.rest input.new) (I.faults input.old) (I.faults input.new) (result ≡ Err Stop.ReadFault) }
         ensures out { IsUsed (O.written out.old) (O.written out.new) (O.faults out.old) (O.faults out.new) (result ≡ Err Stop.WriteFault) }
     {
-        let Some(word) = self.word_of_zero(self.finger) else {
+        let Some(word) = self.word(0, self.finger) else {
             return Err(Stop::FingerOutside);
         };
         let Some(op) = decode(word) else {

@@ -46,8 +46,6 @@ pub enum Stop {
     ArraysFull(u64),
     /// An Allocation or a Load past the limit on words.
     WordsFull(u64),
-    /// An operator that this machine doesn't run yet.
-    NotBuilt,
     /// The input failed.
     ReadFault,
     /// The output failed.
@@ -77,7 +75,6 @@ impl Stop {
             Stop::OutputTooLarge => "OutputTooLarge",
             Stop::ArraysFull(_) => "ArraysFull",
             Stop::WordsFull(_) => "WordsFull",
-            Stop::NotBuilt => "NotBuilt",
             Stop::ReadFault => "ReadFault",
             Stop::WriteFault => "WriteFault",
             Stop::Memory => "Memory",

@@ -1,0 +1,23 @@
+-- What is true of every machine.
+use Rattle.std.proofs.Common.{◌≡◌, ◌<◌, ◌^◌, ℕ, List, length}
+use Rattle.std.specs.Prelude.{slice_index}
+use Rattle.um_word.specs.State.{array_at}
+use Rattle.array_store.specs.Held.{Held, IsHeld}
+use Rattle.um_machine.specs.Core.{Core, IsWhole}
+
+-- what the store of a machine holds
+abbrev pub held_of : Core → Held
+held_of m = record { arrays = m.arrays; identifiers = m.identifiers; limits = m.limits }
+
+pub whole_of : (m : Core) → length m.registers ≡ 8 → ((k : ℕ) → slice_index m.registers k < 2 ^ 32) → IsHeld (held_of m) → IsWhole m
+whole_of m eight each held = record {
+  well_formed = λ rest out. record {
+    eight = eight;
+    registers = each;
+    zero_there = (array_at m.arrays 0, held.zero_there);
+    platters = held.platters;
+  };
+  orderly = held.orderly;
+  arrays_limit = held.arrays_limit;
+  words_limit = held.words_limit;
+}

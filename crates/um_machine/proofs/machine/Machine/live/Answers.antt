@@ -1,0 +1,8 @@
+use Rattle.std.proofs.Common.{subst}
+use Rattle.um_machine.specs.Core.{IsWhole}
+use Rattle.um_machine.proofs.Whole.{whole_of}
+use Rattle.um_machine.proofs.machine.Machine.live.Goals as goal
+
+pub returns-clause-whole : goal.returns-clause-whole
+returns-clause-whole c =
+    subst IsWhole c.self.view_is (whole_of _ c.registers_fit.ensures.eight c.registers_fit.ensures.each c.live.ensures.held)
