@@ -11,7 +11,7 @@ use Rattle.std.specs.String.{string_cmp, string_bytes}
 use Rattle.std.specs.FinMap.{get, find, insert, same_map, get-insert, get-from_entries, slice_cmp-IsAntisymmetric, nat_cmp-IsAntisymmetric}
 use Rattle.std.proofs.lemmas.Map.Text.{text_cmp, is_eq-slice_cmp, btree_map_updates_text}
 use Rattle.std.specs.declared.alloc.Global.{Global}
-use Rattle.umix_base.specs.ShelfInMemory.{files_of}
+use Rattle.umix_base.specs.ShelfView.{files_of}
 
 option_map-cond : {A B : Type 0} (f : A → B) (b : Bool) (x : A) (o : Option A) (p : Option B) → p ≡ option_map f o → cond b (Some (f x)) p ≡ option_map f (cond b (Some x) o)
 option_map-cond f true x o p e = refl

@@ -5,3 +5,4 @@ pub mod Calls
 pub mod SourceInMemory
 pub mod SinkInMemory
 pub mod ShelfInMemory
+pub mod ShelfView

@@ -10,7 +10,7 @@ use std::alloc::Global;
 use std::collections::BTreeMap;
 use std::marker::Model;
 
-/// A call of a shelf in memory that fails.
+/// A call of a shelf in memory that fails. See "The outside" in docs/ARCHITECTURE.md.
 #[derive(Clone, Copy, PartialEq, Eq, Debug)]
 pub struct ShelfFail {
     /// The call's number, from 0.
@@ -20,7 +20,8 @@ pub struct ShelfFail {
 }
 
 /// A shelf of files in memory. The calls that `fails` names fail, by the first entry with the call's
-/// number; reads and writes are numbered together from 0.
+/// number; reads and writes are numbered together from 0, and 2^64 - 1 stays.
+/// See "The outside" in docs/ARCHITECTURE.md.
 #[derive(Drop)]
 pub struct MemShelf {
     alloc: Global,
@@ -32,7 +33,8 @@ pub struct MemShelf {
 }
 
 impl Model for MemShelf {
-    ghost use Rattle.umix_base.specs.ShelfInMemory.{ShelfInMemory, shelf_code, files_of};
+    ghost use Rattle.umix_base.specs.ShelfInMemory.{ShelfInMemory};
+    ghost use Rattle.umix_base.specs.ShelfView.{shelf_code, files_of};
 
     ghost Value = { ShelfInMemory };
 
@@ -70,7 +72,7 @@ impl MemShelf {
 
     /// The file's contents, or `None` where there is no such file. It is no call with a number.
     pub fn file(&self, name: &str) -> Option<&[u8]>
-        ensures { option_copied result ≡ map.get self.now.held name.now }
+        ensures contents { option_copied result ≡ map.get self.now.held name.now }
     {
         match self.files.get(name) {
             Some(bytes) => Some(bytes.as_slice()),
@@ -78,7 +80,8 @@ impl MemShelf {
         }
     }
 
-    /// Makes the file's contents the bytes. It is no call with a number.
+    /// Makes the file's contents the bytes; where memory is wanted, all files are as before. It is no
+    /// call with a number.
     pub fn place(&mut self, name: &str, bytes: Vec<u8>) -> Result<(), Memory>
         ensures ok { OnOk result (self.new ≡ record self.old { held = map.insert self.old.held name.now bytes.items }) }
         ensures err { OnErr result (self.new ≡ self.old) }

@@ -8,7 +8,8 @@ use std::alloc::Global;
 use std::marker::Model;
 
 /// A sink of a fixed size in memory. The calls with the given numbers fail, and those whose piece
-/// doesn't fit; such a call appends nothing. Its calls are numbered from 0.
+/// doesn't fit; such a call appends nothing. Its calls are numbered from 0, and 2^64 - 1 stays.
+/// See "The outside" in docs/ARCHITECTURE.md.
 #[derive(Drop)]
 pub struct MemSink {
     bytes: Vec<u8>,
@@ -37,7 +38,7 @@ impl Model for MemSink {
 
 impl MemSink {
     /// An empty sink for `room` bytes, of which the calls with these numbers fail. All the memory that
-    /// it needs is taken here.
+    /// it needs is taken here: `put` takes none.
     pub fn new(alloc: Global, room: usize, fails: Vec<u64>) -> Result<MemSink, Memory>
         ensures { IfOk result (λ sink. sink ≡ record {
           bytes = [];
@@ -58,7 +59,7 @@ impl MemSink {
 
     /// The bytes written. It is no call with a number.
     pub fn bytes(&self) -> &[u8]
-        ensures { result.now ≡ self.now.bytes }
+        ensures bytes { result.now ≡ self.now.bytes }
     {
         &self.bytes
     }

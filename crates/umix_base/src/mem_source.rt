@@ -6,7 +6,8 @@ ghost use Rattle.umix_base.specs.SourceInMemory.{SourceInMemory, fails_next, aft
 use crate::{Failed, Source};
 use std::marker::Model;
 
-/// A source over bytes in memory. The calls with the given numbers fail; its calls are numbered from 0.
+/// A source over bytes in memory. The calls with the given numbers fail, and take no byte; its calls
+/// are numbered from 0, and 2^64 - 1 stays. See "The outside" in docs/ARCHITECTURE.md.
 #[derive(Drop)]
 pub struct MemSource {
     bytes: Vec<u8>,
@@ -35,7 +36,7 @@ impl Model for MemSource {
 impl MemSource {
     /// A source of these bytes, of which the calls with these numbers fail.
     pub fn new(bytes: Vec<u8>, fails: Vec<u64>) -> MemSource
-        ensures { result ≡ record { rest = bytes.items; fails = fails.items; calls = 0; faults = 0 } }
+        ensures state { result ≡ record { rest = bytes.items; fails = fails.items; calls = 0; faults = 0 } }
     {
         MemSource {
             bytes,
@@ -48,7 +49,7 @@ impl MemSource {
 
     /// The bytes still to come. It is no call with a number.
     pub fn rest(&self) -> &[u8]
-        ensures { result.now ≡ self.now.rest }
+        ensures rest { result.now ≡ self.now.rest }
     {
         &self.bytes[self.taken..]
     }

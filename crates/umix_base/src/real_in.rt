@@ -7,6 +7,7 @@ const AHEAD: usize = 4096;
 
 /// A source over a reader of the system, read ahead by at most 4096 bytes and without memory of its
 /// own. It tells nothing; each failure of the reader is counted. After its end it asks the reader again.
+/// See "The outside" in docs/ARCHITECTURE.md.
 #[derive(Drop)]
 pub struct RealIn<R: Read + Drop> {
     reader: R,

@@ -4,7 +4,8 @@ use crate::{Failed, Sink};
 use std::io::Write;
 
 /// A sink over a writer of the system, flushed after each piece. It tells nothing; each failure of the
-/// writer is counted.
+/// writer is counted, and so is one that takes nothing of a piece that isn't empty.
+/// See "The outside" in docs/ARCHITECTURE.md.
 #[derive(Drop)]
 pub struct RealOut<W: Write + Drop> {
     writer: W,

@@ -8,7 +8,8 @@ use std::io::{ErrorKind, Read, Write};
 use std::rt::Files;
 
 /// A shelf over the files of a folder. It tells nothing; each failure of the system is counted, and so
-/// is a file that isn't there.
+/// is a file that isn't there. Only a read wants memory, which is `Memory` and no fault.
+/// See "The outside" in docs/ARCHITECTURE.md.
 #[derive(Drop)]
 pub struct RealShelf<'a, R: Files> {
     files: &'a R,
@@ -60,14 +61,11 @@ impl<'a, R: Files> Shelf for RealShelf<'a, R> {
     }
 
     fn write(&mut self, _alloc: Global, name: &str, bytes: &[u8]) -> Result<(), ShelfFault> {
-        match write_file(self.files, name, bytes) {
-            Ok(()) => Ok(()),
-            Err(error) if error.kind() == ErrorKind::OutOfMemory => Err(ShelfFault::Memory),
-            Err(_) => {
-                self.write_faults = self.write_faults.saturating_add(1);
-                Err(ShelfFault::Failed)
-            }
+        if write_file(self.files, name, bytes).is_ok() {
+            return Ok(());
         }
+        self.write_faults = self.write_faults.saturating_add(1);
+        Err(ShelfFault::Failed)
     }
 }
 

@@ -13,7 +13,7 @@ pub enum ShelfFault {
     Memory,
 }
 
-/// Files by their names.
+/// Files by their names. See "The outside" in docs/ARCHITECTURE.md.
 pub trait Shelf {
     /// The files, where the shelf tells them.
     ghost files: { Self → Option Files };

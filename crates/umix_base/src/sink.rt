@@ -4,7 +4,7 @@ ghost use Rattle.umix_base.specs.Streams.{Appends};
 
 use crate::Failed;
 
-/// Bytes go out here.
+/// Bytes go out here. See "The outside" in docs/ARCHITECTURE.md.
 pub trait Sink {
     /// The bytes written, where the sink tells them.
     ghost written: { Self → Option (List ℕ) };

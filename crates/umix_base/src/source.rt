@@ -4,7 +4,7 @@ ghost use Rattle.umix_base.specs.Streams.{Takes};
 
 use crate::Failed;
 
-/// Bytes come in from here.
+/// Bytes come in from here. See "The outside" in docs/ARCHITECTURE.md.
 pub trait Source {
     /// The bytes that are still to come, where the source tells them.
     ghost rest: { Self → Option (List ℕ) };

@@ -1,7 +1,7 @@
 use Rattle.std.proofs.Common.{◌≡◌, ◌∙◌, ap, List, ℕ}
 use Rattle.std.specs.FinMap.{insert}
 use Rattle.std.specs.String.{string_bytes}
-use Rattle.umix_base.specs.ShelfInMemory.{files_of}
+use Rattle.umix_base.specs.ShelfView.{files_of}
 use Rattle.umix_base.proofs.FilesLemmas.{files_of-updates}
 use Rattle.umix_base.proofs.mem_shelf.MemShelf.place.Goals as goal
 
