@@ -4,3 +4,4 @@ pub mod Live
 pub mod Orderly
 pub mod Rules
 pub mod Runs
+pub mod Scrolls

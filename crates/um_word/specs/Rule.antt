@@ -5,8 +5,8 @@ use Rattle.std.specs.FinMap as map
 use Rattle.umix_base.specs.declared.limits.Limits.{Limits}
 use Rattle.um_word.specs.declared.op.Op.{Op}
 use Rattle.um_word.specs.declared.op.Op.TheVariants.{Alloc, Abandon}
-use Rattle.um_word.specs.State.{State, Arrays, live_arrays, live_words, reg, start_of}
-use Rattle.um_word.specs.Table.{Fault, Next, Goes, Stops, cycle, op_under}
+use Rattle.um_word.specs.State.{State, Arrays, live_arrays, live_words, reg}
+use Rattle.um_word.specs.Table.{Next, Goes, Stops, cycle, op_under}
 use Rattle.um_word.specs.Run.{Standing, Stands, Failed, run_by, run, is_allocation, AreLegal}
 
 -- the number of identifiers ever made, and those abandoned and not reused since, in the order of their abandonment

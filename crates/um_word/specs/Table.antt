@@ -1,5 +1,5 @@
 -- The table of the machine: what one cycle does, by one row for each operator.
-use Rattle.std.specs.Prelude.{◌≡◌, ℕ, zero, suc, ◌+◌, ◌-◌, ◌*◌, ◌/◌, ◌%◌, ◌^◌, true, ◌==◌, nat_lt, nat_le, if◌then◌else◌, List, [], ◌∷◌, ◌++◌, length, Option, Some, None, bit_and, slice_get, slice_set, replicate}
+use Rattle.std.specs.Prelude.{ℕ, zero, suc, ◌+◌, ◌-◌, ◌*◌, ◌/◌, ◌%◌, ◌^◌, true, ◌==◌, nat_lt, nat_le, if◌then◌else◌, List, [], ◌∷◌, ◌++◌, length, Option, Some, None, bit_and, slice_get, slice_set, replicate}
 use Rattle.std.specs.FinMap as map
 use Rattle.umix_base.specs.declared.limits.Limits.{Limits}
 use Rattle.um_word.specs.declared.op.Op.{Op}

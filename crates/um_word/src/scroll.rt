@@ -1,0 +1,101 @@
+//! The bytes of a scroll and its words.
+
+ghost use Rattle.std.specs.Prelude.{◌≡◌, ℕ, ◌+◌, ◌*◌, ◌%◌, ◌≤◌, ◌<◌, ◌↔◌, length, IfOk, IfErr};
+ghost use Rattle.std.specs.Int.{w32, to_be_bytes};
+ghost use Rattle.um_word.specs.Scroll.{scroll, IsScrollFault};
+
+use std::alloc::Global;
+use thiserror::Error;
+use umix_base::Memory;
+
+/// The most bytes that a scroll has.
+pub const MOST_SCROLL_BYTES: usize = 67_108_864;
+
+/// The most words that a scroll has.
+pub const MOST_SCROLL_WORDS: usize = 16_777_216;
+
+/// Why bytes are no scroll. The number is the count of bytes.
+#[derive(Debug, Drop, Error)]
+pub enum ScrollFault {
+    /// There are more than 67,108,864 bytes.
+    #[error("TooLong")]
+    TooLong(usize),
+    /// The count of bytes is no multiple of 4.
+    #[error("Ragged")]
+    Ragged(usize),
+    /// There was no memory.
+    #[error("Memory")]
+    Memory,
+}
+
+/// The words of a scroll, read four bytes at a time, the first byte most significant. `TooLong` exactly
+/// over 67,108,864 bytes; else `Ragged` exactly where their count is no multiple of 4.
+pub fn words_of(alloc: Global, bytes: &[u8]) -> Result<Vec<u32>, ScrollFault>
+    ensures words { IfOk result (λ words. scroll words.items ≡ bytes.now) }
+    ensures fits { IfOk result (λ words. length bytes.now ≤ MOST_SCROLL_BYTES) }
+    ensures fault { IfErr result (λ fault. IsScrollFault bytes.now fault) }
+{
+    if bytes.len() > MOST_SCROLL_BYTES {
+        return Err(ScrollFault::TooLong(bytes.len()));
+    }
+    if bytes.len() % 4 != 0 {
+        return Err(ScrollFault::Ragged(bytes.len()));
+    }
+    read_words(alloc, bytes).map_err(|_| ScrollFault::Memory)
+}
+
+fn read_words(alloc: Global, bytes: &[u8]) -> Result<Vec<u32>, Memory>
+    requires { length bytes.now % 4 ≡ 0 }
+    ensures { IfOk result (λ words. scroll words.items ≡ bytes.now) }
+{
+    let mut words = Vec::with_capacity(alloc, bytes.len() / 4)?;
+    let mut rest = bytes;
+    while rest.len() >= 4 {
+        let (four, more) = rest.split_at(4);
+        words.push(word_from(four))?;
+        rest = more;
+    }
+    Ok(words)
+}
+
+// the word of four bytes, the first most significant
+fn word_from(four: &[u8]) -> u32
+    requires { length four.now ≡ 4 }
+    ensures { to_be_bytes w32 result ≡ four.now }
+{
+    u32::from_be_bytes([four[0], four[1], four[2], four[3]])
+}
+
+/// The bytes of the words, four for each, the most significant first.
+pub fn bytes_of(alloc: Global, words: &[u32]) -> Result<Vec<u8>, Memory>
+    ensures { IfOk result (λ bytes. bytes.items ≡ scroll words.now) }
+{
+    let mut bytes = Vec::with_capacity(alloc, 4 * words.len())?;
+    for word in words {
+        bytes.extend_from_slice(&word.to_be_bytes())?;
+    }
+    Ok(bytes)
+}
+
+#[cfg(test)]
+mod tests {
+    use super::*;
+    use std::test::Fail;
+
+    #[test]
+    fn words_and_bytes(rt: HostRuntime) -> Result<(), Fail> {
+        let bytes = [0xd0, 0, 0, 0x41];
+        let words = words_of(rt.alloc(), &bytes)?;
+        assert_eq!(rt; words.as_slice(), [0xd000_0041].as_slice());
+        let again = bytes_of(rt.alloc(), &words)?;
+        assert_eq!(rt; again.as_slice(), bytes.as_slice());
+        match words_of(rt.alloc(), &[0x70, 0, 0, 0, 0]) {
+            Err(fault) => {
+                assert!(rt; matches!(&fault, ScrollFault::Ragged(5)));
+                assert_eq!(rt; format!(in rt.alloc(); "{fault}")?.as_str(), "Ragged");
+            }
+            Ok(_) => assert!(rt; false),
+        }
+        Ok(())
+    }
+}
