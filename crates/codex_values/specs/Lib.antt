@@ -1,1 +1,7 @@
+pub mod Value
+pub mod Store
 pub mod Tokens
+pub mod Reading
+pub mod Writing
+pub mod Pieces
+pub mod Machine
