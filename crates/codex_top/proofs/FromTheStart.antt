@@ -9,14 +9,14 @@ use Rattle.um_word.specs.Table.{Next, Goes, Stops, cycle, op_under}
 use Rattle.um_word.specs.Run.{Standing, Stands, Failed}
 use Rattle.um_word.specs.Rule.{Identifiers, none_made, next_identifier, ruled}
 use Rattle.um_machine.specs.declared.stop.Stop.{Stop}
-use Rattle.um_machine.specs.declared.stop.Stop.TheVariants.{NotBuilt, ReadFault, WriteFault, Memory}
+use Rattle.um_machine.specs.declared.stop.Stop.TheVariants.{ReadFault, WriteFault, Memory}
 use Rattle.um_machine.specs.Core.{Core, state_of, machine_of}
 use Rattle.um_machine.specs.Outside.{MayRest, MayHold}
-use Rattle.um_machine.specs.Stops.{end_of, MayFail, IsUnbuilt}
-use Rattle.um_machine.specs.Runs.{MayStandIn, Leads, EndsAs, Remains, EndsEarly, EndsUnbuilt, RunEnds}
+use Rattle.um_machine.specs.Stops.{end_of, MayFail}
+use Rattle.um_machine.specs.Runs.{MayStandIn, Leads, EndsAs, Remains, EndsEarly, RunEnds}
 use Rattle.codex_top.specs.Outside.{Streams}
 use Rattle.codex_top.specs.Endings.{end_of_run}
-use Rattle.codex_top.specs.RunCommand.{limits, run_of, StandsAt, FailsAt, UnbuiltAt, StopsAt, Runs, WordsEnd, ran}
+use Rattle.codex_top.specs.RunCommand.{limits, run_of, StandsAt, FailsAt, StopsAt, Runs, WordsEnd, ran}
 use Rattle.codex_top.proofs.Outputs.{prefixed, next_prefixed, standing_prefixed, cycle_alike, run_alike}
 
 standing_back : (h : List ℕ) (x : Standing Identifiers) (t : State) (i : Identifiers) → standing_prefixed h x ≡ Stands t i →
@@ -31,22 +31,12 @@ next_back : (h : List ℕ) (r : Next) (t : State) → next_prefixed h r ≡ Goes
 next_back h (Goes v) t e = let at : t ≡ prefixed h v = cc in (v, refl, at)
 next_back h (Stops fault) t e = absurd (let f : next_prefixed h (Stops fault) ≡ Goes t = e in cc)
 
--- the state is that of a run from the start, and there the run stops
-Back : (h words input : List ℕ) (cycles : ℕ) (t : State) (stop : Stop) → Type 0
-Back h words input cycles t stop = (u : State) × (t ≡ prefixed h u) × StopsAt words input cycles u stop
-
 stands_at : (h : List ℕ) (x : Standing Identifiers) (new : Core) (t : State) (stop : Stop) → EndsAs (standing_prefixed h x) new t stop →
     (u : State) × (t ≡ prefixed h u) × StandsAt x u stop
 stands_at h (Stands u i) new t stop e = (u, sym e.0, (refl, e.2 ∙ ap (λ (s : State). end_of s.halted) (sym e.0)))
 stands_at h (Failed u i fault) new t stop e = (u, sym e.0, (refl, e.2))
 
 module _ (h words input : List ℕ) (cycles : ℕ) (new : Core) where
-  start : State
-  start = prefixed h (start_of words input)
-
-  m : Core
-  m = machine_of words limits
-
   remains_back : (stop : Stop) (u v t : State) → Remains stop (prefixed h u) (prefixed h v) t → (w : State) × (t ≡ prefixed h w) × Remains stop u v w
   remains_back WriteFault u v t r = elim r [ inl e ↦ (u, e, inl refl) | inr e ↦ (record u { out = v.out }, e, inr refl) ]
   remains_back _ u v t r = (u, r, refl)
@@ -67,31 +57,14 @@ module _ (h words input : List ℕ) (cycles : ℕ) (new : Core) where
           identifiers = new.identifiers;
           stands = s.1;
           running = ap (λ (a : State). a.halted) (sym s.2) ∙ e.running;
-          fails = subst (λ a. MayFail (op_under a) stop) s.2 e.fails;
+          fails = subst (λ a. MayFail a.registers (op_under a) stop) s.2 e.fails;
           next = n.0;
           goes = n.1;
           remains = r.2;
         },
       )
 
-  unbuilt_at : (t : State) → EndsUnbuilt cycles (machine_of words limits) new (prefixed h (start_of words input)) t →
-      (w : State) × (t ≡ prefixed h w) × UnbuiltAt words input cycles w
-  unbuilt_at t e =
-      let s = standing_back h (run_of words input e.made) t new.identifiers (sym (run_alike h limits e.made none_made (start_of words input)) ∙ e.stands) in (
-        s.0,
-        s.2,
-        record {
-          made = e.made;
-          fewer = e.fewer;
-          identifiers = new.identifiers;
-          stands = s.1;
-          running = ap (λ (a : State). a.halted) (sym s.2) ∙ e.running;
-          unbuilt = subst (λ a. IsUnbuilt (op_under a)) s.2 e.unbuilt;
-        },
-      )
-
   back : (stop : Stop) (t : State) → RunEnds cycles (machine_of words limits) new (prefixed h (start_of words input)) t stop → (w : State) × (t ≡ prefixed h w) × StopsAt words input cycles w stop
-  back NotBuilt t e = unbuilt_at t e
   back ReadFault t e = fails_at ReadFault t e
   back WriteFault t e = fails_at WriteFault t e
   back Memory t e = fails_at Memory t e

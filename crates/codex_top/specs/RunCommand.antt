@@ -10,9 +10,9 @@ use Rattle.um_word.specs.Run.{Standing, Stands, Failed}
 use Rattle.um_word.specs.Rule.{Identifiers, none_made, next_identifier, ruled}
 use Rattle.um_word.specs.Scroll.{scroll}
 use Rattle.um_machine.specs.declared.stop.Stop.{Stop}
-use Rattle.um_machine.specs.declared.stop.Stop.TheVariants.{NotBuilt, ReadFault, WriteFault, Memory}
+use Rattle.um_machine.specs.declared.stop.Stop.TheVariants.{ReadFault, WriteFault, Memory}
 use Rattle.um_machine.specs.Outside.{MayRest}
-use Rattle.um_machine.specs.Stops.{stop_of, end_of, MayFail, IsUnbuilt}
+use Rattle.um_machine.specs.Stops.{stop_of, end_of, MayFail}
 use Rattle.um_machine.specs.Runs.{Remains}
 use Rattle.codex_top.specs.declared.line.Refusal.{Refusal}
 use Rattle.codex_top.specs.declared.line.Refusal.TheVariants.{Ragged, ScrollTooLong}
@@ -44,23 +44,13 @@ pub record FailsAt (words input : List ℕ) (cycles : ℕ) (t : State) (stop : S
   pub identifiers : Identifiers
   pub stands : run_of words input made ≡ Stands at identifiers
   pub running : at.halted ≡ false
-  pub fails : MayFail (op_under at) stop
+  pub fails : MayFail at.registers (op_under at) stop
   pub next : State
   pub goes : cycle at limits (next_identifier identifiers) ≡ Goes next
   pub remains : Remains stop at next t
 
--- fewer cycles were made than there might be, and the next operator isn't built yet
-pub record UnbuiltAt (words input : List ℕ) (cycles : ℕ) (t : State) : Type 0 where
-  pub made : ℕ
-  pub fewer : made < cycles
-  pub identifiers : Identifiers
-  pub stands : run_of words input made ≡ Stands t identifiers
-  pub running : t.halted ≡ false
-  pub unbuilt : IsUnbuilt (op_under t)
-
 -- the run of the scroll stopped in the state t
 abbrev pub StopsAt : (words input : List ℕ) → ℕ → State → Stop → Type 0
-StopsAt words input cycles t NotBuilt = UnbuiltAt words input cycles t
 StopsAt words input cycles t ReadFault = FailsAt words input cycles t ReadFault
 StopsAt words input cycles t WriteFault = FailsAt words input cycles t WriteFault
 StopsAt words input cycles t Memory = FailsAt words input cycles t Memory
