@@ -1,0 +1,41 @@
+//! The program `codex`: the real outside for the one call of `codex_top`.
+#![tactic(auto)]
+
+use codex_top::codex;
+use std::env;
+use std::io::ErrorKind;
+use std::process::ExitCode;
+use umix_base::{RealIn, RealOut, RealShelf};
+
+/// There was no memory for the list of words.
+const NO_MEMORY: u8 = 9;
+
+/// The system didn't hand the arguments out.
+const NO_ARGUMENTS: u8 = 10;
+
+/// Does what the program's arguments ask for over the system's files and streams, and ends with the number
+/// of the status; with 10 where the system doesn't hand the arguments out, and with 9 where their list
+/// finds no memory, in both cases without a word written. See "Statuses" in docs/COMMANDS.md.
+fn main(rt: HostRuntime) -> ExitCode {
+    let arguments = match env::args(&rt) {
+        Ok(arguments) => arguments,
+        Err(error) if error.kind() == ErrorKind::OutOfMemory => return ExitCode::from(NO_MEMORY),
+        Err(_) => return ExitCode::from(NO_ARGUMENTS),
+    };
+    let Ok(words) = arguments.skip(1).collect::<Vec<String>>(rt.alloc()) else {
+        return ExitCode::from(NO_MEMORY);
+    };
+    let mut shelf = RealShelf::new(&rt);
+    let mut input = RealIn::new(rt.stdin());
+    let mut out = RealOut::new(rt.stdout());
+    let mut err = RealOut::new(rt.stderr());
+    let status = codex(
+        rt.alloc(),
+        &words,
+        &mut shelf,
+        &mut input,
+        &mut out,
+        &mut err,
+    );
+    ExitCode::from(status as u8)
+}
