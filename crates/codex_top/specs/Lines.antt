@@ -1,6 +1,7 @@
 -- The lines that the program prints on `err`, and the status that each goes with.
 use Rattle.std.specs.Prelude.{ℕ, List, [], ◌∷◌, codes, decimal}
 use Rattle.std.specs.List.{concat}
+use Rattle.array_store.specs.declared.store.TheConstants.{MOST_ARRAYS, MOST_WORDS}
 use Rattle.um_machine.specs.Stops.{name_of}
 use Rattle.codex_top.specs.declared.status.Status.{Status}
 use Rattle.codex_top.specs.declared.status.Status.TheVariants as status
@@ -21,8 +22,8 @@ limit_count (ArraysFull count) = count
 limit_count (WordsFull count) = count
 
 abbrev pub limit_of : Limit → ℕ
-limit_of (ArraysFull count) = 16777216
-limit_of (WordsFull count) = 268435456
+limit_of (ArraysFull count) = MOST_ARRAYS
+limit_of (WordsFull count) = MOST_WORDS
 
 -- a refusal has a number, a name, and for some what is printed after the name
 abbrev pub refusal_pieces : Refusal → List (List ℕ)

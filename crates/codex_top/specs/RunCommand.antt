@@ -3,6 +3,7 @@ use Rattle.std.specs.Prelude.{◌≡◌, ◌≢◌, ℕ, ◌<◌, ◌≤◌, ◌
 use Rattle.umix_base.specs.declared.limits.Limits.{Limits}
 use Rattle.umix_base.specs.Causes.{Rose}
 use Rattle.umix_base.specs.Files.{Lacks}
+use Rattle.array_store.specs.declared.store.TheConstants.{MOST_ARRAYS, MOST_WORDS}
 use Rattle.um_word.specs.declared.scroll.TheConstants.{MOST_SCROLL_BYTES}
 use Rattle.um_word.specs.State.{State, start_of}
 use Rattle.um_word.specs.Table.{Next, Goes, cycle, op_under}
@@ -24,7 +25,7 @@ use Rattle.codex_top.specs.Endings.{end_of_run}
 
 -- the limits of every run
 abbrev pub limits : Limits
-limits = record { arrays = 16777216; words = 268435456 }
+limits = record { arrays = MOST_ARRAYS; words = MOST_WORDS }
 
 -- the run of a scroll on this input, for so many cycles, with the identifiers of the rule
 abbrev pub run_of : (words input : List ℕ) → ℕ → Standing Identifiers

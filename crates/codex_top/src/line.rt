@@ -7,6 +7,7 @@ ghost use Rattle.umix_base.specs.Streams.{Appends};
 ghost use Rattle.codex_top.specs.Lines.{text_of, refusal_pieces, limit_name, limit_count, limit_of, status_of};
 
 use crate::Status;
+use array_store::{MOST_ARRAYS, MOST_WORDS};
 use itoa::Buffer;
 use um_machine::Stop;
 use umix_base::{Failed, Sink};
@@ -90,8 +91,8 @@ impl Limit {
         ensures { result ≡ limit_of self.now }
     {
         match self {
-            Limit::ArraysFull(_) => 16_777_216,
-            Limit::WordsFull(_) => 268_435_456,
+            Limit::ArraysFull(_) => MOST_ARRAYS,
+            Limit::WordsFull(_) => MOST_WORDS,
         }
     }
 }

@@ -8,14 +8,15 @@ ghost use Rattle.codex_top.specs.RunCommand.{RunEnds, WordsEnd};
 use crate::end::{End, end_of};
 use crate::line::{Line, Refusal};
 use crate::words::MOST_CYCLES;
+use array_store::{MOST_ARRAYS, MOST_WORDS};
 use std::alloc::Global;
 use um_machine::{Machine, Stop};
 use um_word::{MOST_SCROLL_BYTES, ScrollFault, words_of};
 use umix_base::{Limits, Shelf, ShelfFault, Sink, Source};
 
 const LIMITS: Limits = Limits {
-    arrays: 16_777_216,
-    words: 268_435_456,
+    arrays: MOST_ARRAYS,
+    words: MOST_WORDS,
 };
 
 /// Runs the scroll in a file, for so many cycles at most.

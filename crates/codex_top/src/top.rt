@@ -109,3 +109,6 @@ fn tell<E: Sink>(end: End, err: &mut E) -> Status
         },
     }
 }
+
+#[cfg(test)]
+mod tests;

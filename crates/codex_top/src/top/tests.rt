@@ -1,0 +1,281 @@
+//! Worked rows of the commands, over an outside in memory.
+
+use crate::{Status, codex};
+use std::alloc::Global;
+use std::process::Abort;
+use std::test::Fail;
+use um_word::bytes_of;
+use umix_base::{MemShelf, MemSink, MemSource, ShelfFail};
+
+/// One row: the words, the bytes of the file `f`, the input, the number of the call that fails, if one
+/// does, and what is expected.
+#[derive(Drop)]
+struct Row<'a> {
+    words: &'a [&'a str],
+    file: &'a [u8],
+    input: &'a [u8],
+    fails: Fails,
+    out: &'a [u8],
+    err: &'a str,
+    status: Status,
+}
+
+/// Whose first call fails.
+#[derive(Clone, Copy, PartialEq, Eq, Drop)]
+enum Fails {
+    None,
+    Shelf,
+    Input,
+    Out,
+    Err,
+}
+
+fn first_call(alloc: Global, fails: bool) -> Result<Vec<u64>, Fail> {
+    if fails {
+        return Ok(vec![in alloc; 0u64]?);
+    }
+    Ok(Vec::new(alloc))
+}
+
+fn check<R: Abort + AllocGlobal>(rt: &R, row: &Row<'_>) -> Result<(), Fail> {
+    let alloc = rt.alloc();
+    let mut words = Vec::new(alloc);
+    for word in row.words {
+        words.push(String::from_str(alloc, word)?)?;
+    }
+    let mut shelf_fails = Vec::new(alloc);
+    if row.fails == Fails::Shelf {
+        shelf_fails.push(ShelfFail {
+            call: 0,
+            kept: None,
+        })?;
+    }
+    let mut shelf = MemShelf::new(alloc, shelf_fails);
+    shelf.place("f", row.file.to_vec(alloc)?)?;
+    let mut input = MemSource::new(
+        row.input.to_vec(alloc)?,
+        first_call(alloc, row.fails == Fails::Input)?,
+    );
+    let mut out = MemSink::new(alloc, 1000, first_call(alloc, row.fails == Fails::Out)?)?;
+    let mut err = MemSink::new(alloc, 1000, first_call(alloc, row.fails == Fails::Err)?)?;
+    let status = codex(alloc, &words, &mut shelf, &mut input, &mut out, &mut err);
+    assert_eq!(rt; status, row.status);
+    assert_eq!(rt; out.bytes(), row.out);
+    assert_eq!(rt; err.bytes(), row.err.as_bytes());
+    Ok(())
+}
+
+// the first scroll: it writes `A`
+const HELLO: &[u8] = &[0xd0, 0, 0, 0x41, 0xa0, 0, 0, 0, 0x70, 0, 0, 0];
+
+const RUN: &[&str] = &["run", "f"];
+
+// a run of a file that ends with this line and status
+fn run<'a>(file: &'a [u8], out: &'a [u8], err: &'a str, status: Status) -> Row<'a> {
+    Row {
+        words: RUN,
+        file,
+        input: &[],
+        fails: Fails::None,
+        out,
+        err,
+        status,
+    }
+}
+
+#[test]
+fn scrolls(rt: HostRuntime) -> Result<(), Fail> {
+    let rows = [
+        run(HELLO, b"A", "", Status::Done),
+        run(
+            &[],
+            b"",
+            "fault FingerOutside at cycle 1\n",
+            Status::MachineFault,
+        ),
+        run(
+            &[0x70, 0, 0, 0, 0],
+            b"",
+            "refused 31 Ragged 5\n",
+            Status::Refused,
+        ),
+        run(
+            &[0x50, 0, 0, 0],
+            b"",
+            "fault DivideByZero at cycle 1\n",
+            Status::MachineFault,
+        ),
+        run(
+            &[0xd0, 0, 1, 0, 0xa0, 0, 0, 0, 0x70, 0, 0, 0],
+            b"",
+            "fault OutputTooLarge at cycle 2\n",
+            Status::MachineFault,
+        ),
+        run(
+            &[0xd0, 0, 0, 0xff, 0xa0, 0, 0, 0, 0x70, 0, 0, 0],
+            b"\xff",
+            "",
+            Status::Done,
+        ),
+        run(
+            &[
+                0xb0, 0, 0, 0, 0x60, 0, 0, 0x40, 0xa0, 0, 0, 1, 0x70, 0, 0, 0,
+            ],
+            b"\x00",
+            "",
+            Status::Done,
+        ),
+        run(
+            &[0x80, 0, 0, 8, 0x10, 0, 0, 8],
+            b"",
+            "fault IndexOutside at cycle 2\n",
+            Status::MachineFault,
+        ),
+        run(
+            &[0x80, 0, 0, 8, 0xc0, 0, 0, 8],
+            b"",
+            "fault FingerOutside at cycle 3\n",
+            Status::MachineFault,
+        ),
+        run(
+            &[0xe0, 0, 0, 0],
+            b"",
+            "fault BadOperator at cycle 1\n",
+            Status::MachineFault,
+        ),
+        run(
+            &[0x90, 0, 0, 0],
+            b"",
+            "fault AbandonZero at cycle 1\n",
+            Status::MachineFault,
+        ),
+        run(
+            &[0x80, 0, 0, 8],
+            b"",
+            "fault FingerOutside at cycle 2\n",
+            Status::MachineFault,
+        ),
+    ];
+    for row in &rows {
+        check(&rt, row)?;
+    }
+    Ok(())
+}
+
+// a scroll that sets register 1 to 7 and then has this word
+fn after_seven(alloc: Global, word: u32) -> Result<Vec<u8>, Fail> {
+    Ok(bytes_of(alloc, &[0xd200_0007, word])?)
+}
+
+#[test]
+fn faults_of_arrays(rt: HostRuntime) -> Result<(), Fail> {
+    let rows = [
+        (0x1000_0001, "fault IndexOutside at cycle 2\n"),
+        (0x2000_0008, "fault AmendOutside at cycle 2\n"),
+        (0x1000_0008, "fault IndexInactive at cycle 2\n"),
+        (0x2000_0040, "fault AmendInactive at cycle 2\n"),
+        (0x9000_0001, "fault AbandonInactive at cycle 2\n"),
+        (0xc000_0008, "fault LoadInactive at cycle 2\n"),
+    ];
+    for (word, err) in rows {
+        let file = after_seven(rt.alloc(), word)?;
+        check(&rt, &run(&file, b"", err, Status::MachineFault))?;
+    }
+    let full = bytes_of(
+        rt.alloc(),
+        &[
+            0xd300_0000,
+            0xd400_0010,
+            0x4000_000a,
+            0x8000_0018,
+            0x7000_0000,
+        ],
+    )?;
+    let line = "limit WordsFull at cycle 4: 268435461 over 268435456\n";
+    check(&rt, &run(&full, b"", line, Status::Limit))
+}
+
+// words that end so, over the first scroll
+fn words<'a>(words: &'a [&'a str], out: &'a [u8], err: &'a str, status: Status) -> Row<'a> {
+    Row {
+        words,
+        file: HELLO,
+        input: &[],
+        fails: Fails::None,
+        out,
+        err,
+        status,
+    }
+}
+
+const USAGE: &str =
+    "usage: check F | eval F [PICKS [N]] | trace F PICKS N | compile F OUT | run F [N] | asm F OUT | dis F | debug F INPUT | selftest N\n";
+
+#[test]
+fn command_lines(rt: HostRuntime) -> Result<(), Fail> {
+    let rows = [
+        words(&[], b"", USAGE, Status::Usage),
+        words(&["eval", "f", "1,,2"], b"", USAGE, Status::Usage),
+        words(&["run"], b"", USAGE, Status::Usage),
+        words(&["run", "f", "03"], b"", USAGE, Status::Usage),
+        words(&["run", "f", "+3"], b"", USAGE, Status::Usage),
+        words(
+            &["run", "f", "4611686018427387905"],
+            b"",
+            USAGE,
+            Status::Usage,
+        ),
+        words(&["run", "f", "1", "2"], b"", USAGE, Status::Usage),
+        words(&["--help"], b"", USAGE, Status::Usage),
+        words(&["run", "f", "4611686018427387904"], b"A", "", Status::Done),
+        words(&["run", "f", "3"], b"A", "", Status::Done),
+        words(
+            &["run", "f", "2"],
+            b"A",
+            "budget 2 cycles\n",
+            Status::Budget,
+        ),
+        words(&["run", "f", "0"], b"", "budget 0 cycles\n", Status::Budget),
+        words(&["run", "none.um"], b"", "read fault\n", Status::ReadFault),
+    ];
+    for row in &rows {
+        check(&rt, row)?;
+    }
+    Ok(())
+}
+
+// a run of which the first call of one object fails
+fn failing<'a>(
+    fails: Fails,
+    file: &'a [u8],
+    out: &'a [u8],
+    err: &'a str,
+    status: Status,
+) -> Row<'a> {
+    Row {
+        words: RUN,
+        file,
+        input: b"x",
+        fails,
+        out,
+        err,
+        status,
+    }
+}
+
+#[test]
+fn failures_outside(rt: HostRuntime) -> Result<(), Fail> {
+    let input = &[0xb0, 0, 0, 0, 0x70, 0, 0, 0];
+    let rows = [
+        failing(Fails::Shelf, HELLO, b"", "read fault\n", Status::ReadFault),
+        failing(Fails::Input, input, b"", "read fault\n", Status::ReadFault),
+        failing(Fails::None, input, b"", "", Status::Done),
+        failing(Fails::Out, HELLO, b"", "write fault\n", Status::WriteFault),
+        failing(Fails::Err, &[0x50, 0, 0, 0], b"", "", Status::WriteFault),
+        failing(Fails::Err, HELLO, b"A", "", Status::Done),
+    ];
+    for row in &rows {
+        check(&rt, row)?;
+    }
+    Ok(())
+}
