@@ -1,0 +1,8 @@
+pub mod Tokens
+pub mod Mnemonics
+pub mod Lines
+pub mod Scopes
+pub mod Assembly
+pub mod Listing
+pub mod Parts
+pub mod Meanings
