@@ -1,5 +1,5 @@
 -- What is true of every machine.
-use Rattle.std.proofs.Common.{◌≡◌, ◌<◌, ◌^◌, ℕ, List, length}
+use Rattle.std.proofs.Common.{◌≡◌, ◌<◌, ◌^◌, ℕ, length}
 use Rattle.std.specs.Prelude.{slice_index}
 use Rattle.um_word.specs.State.{array_at}
 use Rattle.array_store.specs.Held.{Held, IsHeld}

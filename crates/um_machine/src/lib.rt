@@ -3,6 +3,8 @@
 
 mod machine;
 mod stop;
+#[cfg(test)]
+mod tests;
 
 pub use machine::Machine;
 pub use stop::{Stop, Turn};

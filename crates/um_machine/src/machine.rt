@@ -61,15 +61,17 @@ fn each_fits(words: &[u32])
 }
 
 impl Machine {
-    /// A machine at the start of the run of these words: registers and finger 0, array 0 the words, and no
-    /// other array. `WordsFull` exactly where there are more words than the limit. The words are not copied.
+    /// A machine at the start of the run of these words: registers and finger 0, array 0 the words,
+    /// and no other array. `WordsFull` exactly where there are more words than the limit. The words
+    /// are not copied.
     /// See "The start of a run" in docs/MACHINE.md.
     pub fn new(alloc: Global, words: Vec<u32>, limits: Limits) -> Result<Machine, Stop>
         requires arrays { limits.arrays ≤ 16777216 }
         requires words { limits.words ≤ 268435456 }
         ensures machine { IfOk result (λ machine. machine ≡ machine_of words.items limits) }
         ensures fits { OnOk result (length words.items ≤ limits.words) }
-        ensures fault { IfErr result (λ stop. (stop ≡ Stop.Memory) ⊎ ((stop ≡ Stop.WordsFull (length words.items)) × (limits.words < length words.items))) }
+        ensures fault { IfErr result (λ stop. (stop ≡ Stop.Memory) ⊎
+            ((stop ≡ Stop.WordsFull (length words.items)) × (limits.words < length words.items))) }
         ensures memory { result ≡ Err Stop.Memory → length words.items ≤ limits.words }
     {
         match Store::new(alloc, words, limits) {
@@ -107,8 +109,8 @@ impl Machine {
         self.cycles
     }
 
-    /// The platter at this offset of an array, from 0. `None` exactly where there is no such array, or it has
-    /// no such platter. Constant time, and it takes no memory.
+    /// The platter at this offset of an array, from 0. `None` exactly where there is no such array, or
+    /// it has no such platter. Constant time, and it takes no memory.
     pub fn word(&self, id: u32, at: u32) -> Option<u32>
         ensures value { result ≡ slice_get (array_at self.now.arrays id) at }
         ensures short { IfSome result (λ _. at < 2 ^ 28) }
@@ -116,8 +118,8 @@ impl Machine {
         self.store.index(id, at).ok()
     }
 
-    /// The number of arrays, without array 0, and of words, with those of array 0. Constant time, and it takes
-    /// no memory.
+    /// The number of arrays, without array 0, and of words, with those of array 0. Constant time, and
+    /// it takes no memory.
     pub fn live(&self) -> (u64, u64)
         ensures arrays { result.0 ≡ live_arrays self.now.arrays }
         ensures words { result.1 ≡ live_words self.now.arrays }
@@ -136,7 +138,9 @@ impl Machine {
     // a register gets a value
     fn set(&mut self, k: u8, value: u32)
         requires { k < 8 }
-        ensures { self.new ≡ record self.old { registers = slice_set self.old.registers k value } }
+        ensures { self.new ≡ record self.old {
+          registers = slice_set self.old.registers k value;
+        } }
     {
         self.registers[k as usize] = value;
     }
@@ -145,7 +149,10 @@ impl Machine {
     fn advance(&mut self)
         requires finger { self.old.finger + 1 < 2 ^ 32 }
         requires cycles { self.old.cycles + 1 < 2 ^ 64 }
-        ensures { self.new ≡ record self.old { finger = self.old.finger + 1; cycles = self.old.cycles + 1 } }
+        ensures { self.new ≡ record self.old {
+          finger = self.old.finger + 1;
+          cycles = self.old.cycles + 1;
+        } }
     {
         self.finger += 1;
         self.cycles += 1;
@@ -241,7 +248,7 @@ impl Machine {
     }
 
     // the operator's row of the table
-    #[tactic(auto, using(std::proofs::lemmas::Option::slice_get_within, crate::proofs::Bytes::held_more, crate::proofs::Bytes::held_one))]
+    #[tactic(auto, using(crate::proofs::Bytes::held_more, crate::proofs::Bytes::held_one))]
     fn discharge<I: Source, O: Sink>(
         &mut self,
         op: Op,
@@ -253,18 +260,26 @@ impl Machine {
         requires cycles { self.old.cycles + 1 < 2 ^ 64 }
         requires running { self.old.halted ≡ false }
         ensures rest { (left : List ℕ) → MayRest (I.rest input.new) left →
-            MayRest (I.rest input.old) (rest_before result (Some op) (I.rest input.old) self.new.registers left) }
-        ensures row { (left : List ℕ) → MayRest (I.rest input.new) left → (held : List ℕ) → MayHold (O.written out.old) held →
+            MayRest (I.rest input.old)
+            (rest_before result (Some op) (I.rest input.old) self.new.registers left) }
+        ensures row { (left : List ℕ) → MayRest (I.rest input.new) left →
+            (held : List ℕ) → MayHold (O.written out.old) held →
             Meets (Some op) self.new left (O.written out.old) (O.written out.new)
             (row op self.old.limits (next_identifier self.old.identifiers)
-            (moved (state_of self.old (rest_before result (Some op) (I.rest input.old) self.new.registers left) held))) result }
-        ensures identifiers { OnOk result (self.new.identifiers ≡ left_by (Some op) (state_of self.old [] []) self.old.identifiers) }
+            (moved (state_of self.old
+            (rest_before result (Some op) (I.rest input.old) self.new.registers left) held)))
+            result }
+        ensures identifiers { OnOk result (self.new.identifiers
+            ≡ left_by (Some op) (state_of self.old [] []) self.old.identifiers) }
         ensures limits { self.new.limits ≡ self.old.limits }
         ensures turn { IfOk result (λ turn. turn ≡ turn_of self.new.halted) }
         ensures counted { OnOk result (self.new.cycles ≡ self.old.cycles + 1) }
-        ensures kept { OnErr result ((self.new ≡ self.old) × (I.rest input.new ≡ I.rest input.old)) }
-        ensures input { IsUsed (I.rest input.old) (I.rest input.new) (I.faults input.old) (I.faults input.new) (result ≡ Err Stop.ReadFault) }
-        ensures out { IsUsed (O.written out.old) (O.written out.new) (O.faults out.old) (O.faults out.new) (result ≡ Err Stop.WriteFault) }
+        ensures kept { OnErr result
+            ((self.new ≡ self.old) × (I.rest input.new ≡ I.rest input.old)) }
+        ensures input { IsUsed (I.rest input.old) (I.rest input.new)
+            (I.faults input.old) (I.faults input.new) (result ≡ Err Stop.ReadFault) }
+        ensures out { IsUsed (O.written out.old) (O.written out.new)
+            (O.faults out.old) (O.faults out.new) (result ≡ Err Stop.WriteFault) }
     {
         match op {
             Op::Move(a, b, c) => {
@@ -367,18 +382,26 @@ impl Machine {
         requires cycles { self.old.cycles + 1 < 2 ^ 64 }
         requires running { self.old.halted ≡ false }
         ensures rest { (left : List ℕ) → MayRest (I.rest input.new) left →
-            MayRest (I.rest input.old) (rest_before result (op_under (state_of self.old [] [])) (I.rest input.old) self.new.registers left) }
-        ensures row { (left : List ℕ) → MayRest (I.rest input.new) left → (held : List ℕ) → MayHold (O.written out.old) held →
-            Meets (op_under (state_of self.old [] [])) self.new left (O.written out.old) (O.written out.new)
-            (cycle (state_of self.old (rest_before result (op_under (state_of self.old [] [])) (I.rest input.old) self.new.registers left) held)
+            MayRest (I.rest input.old) (rest_before result (op_under (state_of self.old [] []))
+            (I.rest input.old) self.new.registers left) }
+        ensures row { (left : List ℕ) → MayRest (I.rest input.new) left →
+            (held : List ℕ) → MayHold (O.written out.old) held →
+            Meets (op_under (state_of self.old [] [])) self.new left
+            (O.written out.old) (O.written out.new)
+            (cycle (state_of self.old (rest_before result (op_under (state_of self.old [] []))
+            (I.rest input.old) self.new.registers left) held)
             self.old.limits (next_identifier self.old.identifiers)) result }
-        ensures identifiers { OnOk result (self.new.identifiers ≡ identifiers_left (state_of self.old [] []) self.old.identifiers) }
+        ensures identifiers { OnOk result (self.new.identifiers
+            ≡ identifiers_left (state_of self.old [] []) self.old.identifiers) }
         ensures limits { self.new.limits ≡ self.old.limits }
         ensures turn { IfOk result (λ turn. turn ≡ turn_of self.new.halted) }
         ensures counted { OnOk result (self.new.cycles ≡ self.old.cycles + 1) }
-        ensures kept { OnErr result ((self.new ≡ self.old) × (I.rest input.new ≡ I.rest input.old)) }
-        ensures input { IsUsed (I.rest input.old) (I.rest input.new) (I.faults input.old) (I.faults input.new) (result ≡ Err Stop.ReadFault) }
-        ensures out { IsUsed (O.written out.old) (O.written out.new) (O.faults out.old) (O.faults out.new) (result ≡ Err Stop.WriteFault) }
+        ensures kept { OnErr result
+            ((self.new ≡ self.old) × (I.rest input.new ≡ I.rest input.old)) }
+        ensures input { IsUsed (I.rest input.old) (I.rest input.new)
+            (I.faults input.old) (I.faults input.new) (result ≡ Err Stop.ReadFault) }
+        ensures out { IsUsed (O.written out.old) (O.written out.new)
+            (O.faults out.old) (O.faults out.new) (result ≡ Err Stop.WriteFault) }
     {
         let Some(word) = self.word(0, self.finger) else {
             return Err(Stop::FingerOutside);
@@ -389,19 +412,24 @@ impl Machine {
         self.discharge(op, input, out)
     }
 
-    /// One cycle by the table: its row's next state, or a fault that leaves the machine as it was. A halted
-    /// machine answers `Halted` again and changes nothing. `ReadFault` comes only at an Input whose source
-    /// failed, `WriteFault` only at an Output whose sink failed; whether its byte went out isn't told.
+    /// One cycle by the table: its row's next state, or a fault that leaves the machine as it was. A
+    /// halted machine answers `Halted` again and changes nothing. `ReadFault` comes only at an Input
+    /// whose source failed, `WriteFault` only at an Output whose sink failed; whether its byte went out
+    /// isn't told. `Memory` comes only at an Allocation, or a Load of an array other than 0.
     /// Constant time, but for an Allocation and a Load. See "One cycle" in docs/MACHINE.md.
     pub fn cycle<I: Source, O: Sink>(&mut self, input: &mut I, out: &mut O) -> Result<Turn, Stop>
         requires cycles { self.old.cycles + 1 < 2 ^ 64 }
         ensures row { Leads (MayStandIn self.old (I.rest input.old) (O.written out.old))
             (MayStandIn self.new (I.rest input.new) (O.written out.new))
             (λ s t. CycleEnds self.old self.new s t result) }
-        ensures kept { OnErr result ((self.new ≡ self.old) × (I.rest input.new ≡ I.rest input.old)) }
+        ensures counted { self.new.cycles ≤ self.old.cycles + 1 }
+        ensures kept { OnErr result
+            ((self.new ≡ self.old) × (I.rest input.new ≡ I.rest input.old)) }
         ensures limits { self.new.limits ≡ self.old.limits }
-        ensures input { IsUsed (I.rest input.old) (I.rest input.new) (I.faults input.old) (I.faults input.new) (result ≡ Err Stop.ReadFault) }
-        ensures out { IsUsed (O.written out.old) (O.written out.new) (O.faults out.old) (O.faults out.new) (result ≡ Err Stop.WriteFault) }
+        ensures input { IsUsed (I.rest input.old) (I.rest input.new)
+            (I.faults input.old) (I.faults input.new) (result ≡ Err Stop.ReadFault) }
+        ensures out { IsUsed (O.written out.old) (O.written out.new)
+            (O.faults out.old) (O.faults out.new) (result ≡ Err Stop.WriteFault) }
     {
         if self.is_halted() {
             return Ok(Turn::Halted);
@@ -409,9 +437,10 @@ impl Machine {
         self.step(input, out)
     }
 
-    /// Up to this many cycles: until the machine has halted, or one cycle fails. `Budget` exactly where all
-    /// of them were made and the machine runs on; with none it is `Halted` for a halted machine, else
-    /// `Budget`. After a fault the machine stands as before that cycle, and the cycles before it stay made.
+    /// Up to this many cycles: until the machine has halted, or one cycle fails. `Budget` exactly where
+    /// all of them were made and the machine runs on; with none it is `Halted` for a halted machine,
+    /// else `Budget`. After a fault the machine stands as before that cycle, and the cycles before it
+    /// stay made.
     /// See "Runs" in docs/MACHINE.md.
     pub fn run<I: Source, O: Sink>(&mut self, input: &mut I, out: &mut O, cycles: u64) -> Stop
         requires { self.old.cycles + cycles < 2 ^ 64 }
@@ -420,8 +449,10 @@ impl Machine {
             (λ s t. RunEnds cycles self.old self.new s t result) }
         ensures counted { self.new.cycles ≤ self.old.cycles + cycles }
         ensures limits { self.new.limits ≡ self.old.limits }
-        ensures input { IsUsed (I.rest input.old) (I.rest input.new) (I.faults input.old) (I.faults input.new) (result ≡ Stop.ReadFault) }
-        ensures out { IsUsed (O.written out.old) (O.written out.new) (O.faults out.old) (O.faults out.new) (result ≡ Stop.WriteFault) }
+        ensures input { IsUsed (I.rest input.old) (I.rest input.new)
+            (I.faults input.old) (I.faults input.new) (result ≡ Stop.ReadFault) }
+        ensures out { IsUsed (O.written out.old) (O.written out.new)
+            (O.faults out.old) (O.faults out.new) (result ≡ Stop.WriteFault) }
     {
         if self.is_halted() {
             return Stop::Halted;
