@@ -1,13 +1,20 @@
 -- What a file holds of which the first bytes were read.
 use Rattle.std.proofs.Common.{◌≡◌, ◌≤◌, ◌<◌, ◌+◌, ◌*◌, ℕ, zero, suc, List, [], ◌∷◌, length, take, min, Option, Some, None, refl, sym, ap, ◌∙◌, subst, arith}
-use Rattle.std.specs.Prelude.{Result, Ok, Vec, option_map, ◌++◌}
+use Rattle.std.specs.Prelude.{Result, Ok, Err, IfOk, IfErr, Vec, option_map, ◌++◌}
 use Rattle.std.specs.Int.{w32, to_be_bytes}
 use Rattle.std.specs.declared.alloc.Global.{Global}
 use Rattle.std.specs.FinMap as map
 use Rattle.std.proofs.lemmas.List.{length-take, length-append, take-append-le, append-nil}
-use Rattle.umix_base.specs.Files.{Files, ReadsFile}
+use Rattle.umix_base.specs.declared.shelf.ShelfFault.TheVariants as shelf
+use Rattle.umix_base.specs.Causes.{KeepsTelling}
+use Rattle.umix_base.specs.Files.{Files, ReadsFile, WritesFile}
 use Rattle.um_word.specs.Scroll.{scroll}
-use Rattle.codex_top.specs.Outside.{MayHave}
+use Rattle.codex_top.specs.declared.line.Line.{Line}
+use Rattle.codex_top.specs.Outside.{Shelved, MayHave}
+use Rattle.codex_top.specs.ReadFiles.{FileRead, ScrollRead}
+use Rattle.codex_top.specs.ReadFiles as reading
+use Rattle.codex_top.specs.TextCommands.{TextRead}
+use Rattle.codex_top.specs.TextCommands as texts
 
 -- at least these bytes, and just these where they are fewer than were asked for
 pub record Seen (files : Option Files) (name : List ℕ) (most : ℕ) (bytes : List ℕ) : Type 0 where
@@ -44,3 +51,37 @@ length-scroll [] = refl
 length-scroll (word ∷ words) =
     let more : length (scroll (word ∷ words)) ≡ 4 + length (scroll words) = length-append (to_be_bytes w32 word) (scroll words) in
     omega (arith, more, length-scroll words)
+
+-- what a read says of the file where it gave bytes, and of the line where it gave none
+pub seen_of : (file : List ℕ) (most : ℕ) (before now : Shelved) (r : Result (Vec ℕ Global) Line) → FileRead file most before now r →
+    IfOk r (λ bytes. Seen before.files file most bytes.items)
+seen_of file most before now _ (reading.had held bytes has whole over) = record { held = held; has = has; whole = whole; over = over }
+seen_of file most before now _ (reading.unread cause) = tt
+seen_of file most before now _ reading.no_memory = tt
+
+pub no_scroll : (file : List ℕ) (most : ℕ) (before now : Shelved) (r : Result (Vec ℕ Global) Line) → FileRead file most before now r →
+    IfErr r (λ line. ScrollRead file before now (Err line))
+no_scroll file most before now _ (reading.had held bytes has whole over) = tt
+no_scroll file most before now _ (reading.unread cause) = reading.unread cause
+no_scroll file most before now _ reading.no_memory = reading.no_memory
+
+pub no_text : (file : List ℕ) (most : ℕ) (before now : Shelved) (r : Result (Vec ℕ Global) Line) → FileRead file most before now r →
+    IfErr r (λ line. TextRead file before now (Err line))
+no_text file most before now _ (reading.had held bytes has whole over) = tt
+no_text file most before now _ (reading.unread cause) = texts.unread cause
+no_text file most before now _ reading.no_memory = texts.no_memory
+
+-- the words of a text are those of the file, whatever else becomes of the shelf
+pub text_stays : (file : List ℕ) (before mid now : Shelved) (r : Result (Vec ℕ Global) Line) → TextRead file before mid r →
+    IfOk r (λ words. TextRead file before now (Ok words))
+text_stays file before mid now _ (texts.words text words has fits is) = texts.words text words has fits is
+text_stays file before mid now _ (texts.too_long text has over) = tt
+text_stays file before mid now _ (texts.faulty text fault has fits is) = tt
+text_stays file before mid now _ (texts.unread cause) = tt
+text_stays file before mid now _ texts.no_memory = tt
+
+-- a write that wanted memory left the files as they were
+pub files_stay : (name bytes : List ℕ) (files now : Option Files) → WritesFile name bytes files now (Err shelf.Memory) → KeepsTelling files now → now ≡ files
+files_stay name bytes None None w k = refl
+files_stay name bytes None (Some now) w k = cc
+files_stay name bytes (Some files) now w k = w

@@ -27,6 +27,6 @@ end_of_run cycles made why = Stopped (line.Fault why (made + 1))
 -- couldn't be written, a beginning of it and WriteFault.
 pub data IsTold (before now : Option (List ℕ)) (faults_before faults_now : ℕ) : End → Status → Type 0 where
   nothing : now ≡ before → faults_now ≡ faults_before → IsTold before now faults_before faults_now Done status.Done
-  whole : (line : Line) → now ≡ option_map (λ held. held ++ text_of line) before → IsTold before now faults_before faults_now (Stopped line) (status_of line)
+  whole : (line : Line) → now ≡ option_map (λ held. held ++ text_of line) before → faults_before ≤ faults_now → IsTold before now faults_before faults_now (Stopped line) (status_of line)
   cut : (line : Line) (k : ℕ) → k ≤ length (text_of line) → now ≡ option_map (λ held. held ++ take k (text_of line)) before → Rose faults_before faults_now →
       IsTold before now faults_before faults_now (Stopped line) status.WriteFault

@@ -3,5 +3,7 @@ pub mod Words
 pub mod Jobs
 pub mod Outside
 pub mod Endings
+pub mod ReadFiles
 pub mod RunCommand
+pub mod TextCommands
 pub mod Commands

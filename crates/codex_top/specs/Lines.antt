@@ -6,7 +6,7 @@ use Rattle.um_machine.specs.Stops.{name_of}
 use Rattle.codex_top.specs.declared.status.Status.{Status}
 use Rattle.codex_top.specs.declared.status.Status.TheVariants as status
 use Rattle.codex_top.specs.declared.line.Refusal.{Refusal}
-use Rattle.codex_top.specs.declared.line.Refusal.TheVariants.{Ragged, ScrollTooLong}
+use Rattle.codex_top.specs.declared.line.Refusal.TheVariants.{Ragged, ScrollTooLong, BadLine, SameLabel, NoLabel, ValueTooLarge, TooManyWords, TextTooLong}
 use Rattle.codex_top.specs.declared.line.Limit.{Limit}
 use Rattle.codex_top.specs.declared.line.Limit.TheVariants.{ArraysFull, WordsFull}
 use Rattle.codex_top.specs.declared.line.Line.{Line}
@@ -29,6 +29,12 @@ limit_of (WordsFull count) = MOST_WORDS
 abbrev pub refusal_pieces : Refusal → List (List ℕ)
 refusal_pieces (Ragged bytes) = codes "refused 31 Ragged " ∷ decimal bytes ∷ codes "\n" ∷ []
 refusal_pieces ScrollTooLong = codes "refused 32 ScrollTooLong\n" ∷ []
+refusal_pieces (BadLine line) = codes "refused 41 BadLine " ∷ decimal line ∷ codes "\n" ∷ []
+refusal_pieces (SameLabel line) = codes "refused 42 SameLabel " ∷ decimal line ∷ codes "\n" ∷ []
+refusal_pieces (NoLabel line) = codes "refused 43 NoLabel " ∷ decimal line ∷ codes "\n" ∷ []
+refusal_pieces (ValueTooLarge line) = codes "refused 44 ValueTooLarge " ∷ decimal line ∷ codes "\n" ∷ []
+refusal_pieces TooManyWords = codes "refused 45 TooManyWords\n" ∷ []
+refusal_pieces TextTooLong = codes "refused 46 TextTooLong\n" ∷ []
 
 -- the pieces of a line
 abbrev pub pieces_of : Line → List (List ℕ)

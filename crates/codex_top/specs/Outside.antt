@@ -41,6 +41,10 @@ Received bytes before now = now.output ≡ option_map (λ held. held ++ bytes) b
 abbrev pub IsOnlyRead : Shelved → Shelved → Type 0
 IsOnlyRead before now = (now.files ≡ before.files) × (now.write_faults ≡ before.write_faults)
 
+-- the input is as before
+abbrev pub IsUnread : Streams → Streams → Type 0
+IsUnread before now = (now.input ≡ before.input) × (now.input_faults ≡ before.input_faults)
+
 -- No count of faults fell, and nothing began or ceased to tell what it holds.
 pub record IsShelfCounted (before now : Shelved) : Type 0 where
   pub files : KeepsTelling before.files now.files

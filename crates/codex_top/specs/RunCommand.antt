@@ -1,24 +1,22 @@
 -- The command that runs a scroll.
-use Rattle.std.specs.Prelude.{◌≡◌, ◌≢◌, ℕ, ◌<◌, ◌≤◌, ◌⊎◌, ◌%◌, false, List, [], length}
+use Rattle.std.specs.Prelude.{◌≡◌, ℕ, ◌<◌, false, List, Vec, Ok, Err}
+use Rattle.std.specs.declared.alloc.Global.{Global}
 use Rattle.umix_base.specs.declared.limits.Limits.{Limits}
 use Rattle.umix_base.specs.Causes.{Rose}
-use Rattle.umix_base.specs.Files.{Lacks}
 use Rattle.array_store.specs.declared.store.TheConstants.{MOST_ARRAYS, MOST_WORDS}
-use Rattle.um_word.specs.declared.scroll.TheConstants.{MOST_SCROLL_BYTES}
 use Rattle.um_word.specs.State.{State, start_of}
 use Rattle.um_word.specs.Table.{Next, Goes, cycle, op_under}
 use Rattle.um_word.specs.Run.{Standing, Stands, Failed}
 use Rattle.um_word.specs.Rule.{Identifiers, none_made, next_identifier, ruled}
-use Rattle.um_word.specs.Scroll.{scroll}
 use Rattle.um_machine.specs.declared.stop.Stop.{Stop}
 use Rattle.um_machine.specs.declared.stop.Stop.TheVariants.{ReadFault, WriteFault, Memory}
 use Rattle.um_machine.specs.Outside.{MayRest}
 use Rattle.um_machine.specs.Stops.{stop_of, end_of, MayFail}
 use Rattle.um_machine.specs.Runs.{Remains}
-use Rattle.codex_top.specs.declared.line.Refusal.{Refusal}
-use Rattle.codex_top.specs.declared.line.Refusal.TheVariants.{Ragged, ScrollTooLong}
 use Rattle.codex_top.specs.declared.line.Line.TheVariants as line
-use Rattle.codex_top.specs.Outside.{Shelved, Streams, MayHave, Received}
+use Rattle.codex_top.specs.declared.line.Line.{Line}
+use Rattle.codex_top.specs.Outside.{Shelved, Streams, Received}
+use Rattle.codex_top.specs.ReadFiles.{ScrollRead}
 use Rattle.codex_top.specs.declared.end.End.{End}
 use Rattle.codex_top.specs.declared.end.End.TheVariants.{Stopped}
 use Rattle.codex_top.specs.Endings.{end_of_run}
@@ -73,17 +71,8 @@ pub data WordsEnd (words : List ℕ) (cycles : ℕ) (before now : Streams) : End
   no_memory : now ≡ before → WordsEnd words cycles before now (Stopped line.NoMemory)
   ran : (t : State) (stop : Stop) → Runs words cycles before now t stop → WordsEnd words cycles before now (end_of_run cycles t.cycles stop)
 
--- why a file is no scroll
-abbrev pub IsRefused : List ℕ → Refusal → Type 0
-IsRefused bytes ScrollTooLong = MOST_SCROLL_BYTES < length bytes
-IsRefused bytes (Ragged count) = (length bytes ≤ MOST_SCROLL_BYTES) × (count ≡ length bytes) × (length bytes % 4 ≢ 0)
-
--- how `run` of a file ends; until the scroll runs, input and output are untouched
+-- how `run` of a file ends: until the scroll runs, input and output are untouched
 pub data RunEnds (file : List ℕ) (cycles : ℕ) (shelf_before shelf_now : Shelved) (before now : Streams) : End → Type 0 where
-  unread : Rose shelf_before.read_faults shelf_now.read_faults ⊎ Lacks shelf_before.files file → now ≡ before →
-      RunEnds file cycles shelf_before shelf_now before now (Stopped line.ReadFault)
-  refused : (bytes : List ℕ) (refusal : Refusal) → MayHave shelf_before.files file bytes → IsRefused bytes refusal → now ≡ before →
-      RunEnds file cycles shelf_before shelf_now before now (Stopped (line.Refused refusal))
-  no_memory : now ≡ before → RunEnds file cycles shelf_before shelf_now before now (Stopped line.NoMemory)
-  read : (words : List ℕ) (end : End) → MayHave shelf_before.files file (scroll words) → length (scroll words) ≤ MOST_SCROLL_BYTES → WordsEnd words cycles before now end →
+  unread : (line : Line) → ScrollRead file shelf_before shelf_now (Err line) → now ≡ before → RunEnds file cycles shelf_before shelf_now before now (Stopped line)
+  read : (words : Vec ℕ Global) (end : End) → ScrollRead file shelf_before shelf_now (Ok words) → WordsEnd words.items cycles before now end →
       RunEnds file cycles shelf_before shelf_now before now end

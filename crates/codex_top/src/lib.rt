@@ -2,9 +2,11 @@
 #![tactic(auto)]
 
 mod end;
+mod file;
 mod line;
 mod run;
 mod status;
+mod text;
 mod top;
 mod words;
 

@@ -1,6 +1,6 @@
 //! The lines that the program prints on `err`.
 
-ghost use Rattle.std.specs.Prelude.{◌≡◌, ℕ, decimal};
+ghost use Rattle.std.specs.Prelude.{◌≡◌, ℕ, [], ◌∷◌, codes, decimal};
 ghost use Rattle.std.specs.List.{flat_map, concat};
 ghost use Rattle.umix_base.specs.Causes.{HasCause, KeepsTelling};
 ghost use Rattle.umix_base.specs.Streams.{Appends};
@@ -19,6 +19,18 @@ pub enum Refusal {
     Ragged(usize),
     /// A scroll of more than 67,108,864 bytes.
     ScrollTooLong,
+    /// A text whose line of this number, from 1, isn't of the forms of a line.
+    BadLine(usize),
+    /// A text whose line of this number defines what was defined before.
+    SameLabel(usize),
+    /// A text whose line of this number uses what isn't defined.
+    NoLabel(usize),
+    /// A text whose line of this number has a value that is too large.
+    ValueTooLarge(usize),
+    /// A text of more than 16,777,216 words.
+    TooManyWords,
+    /// A text of more than 300,000,000 bytes.
+    TextTooLong,
 }
 
 /// A limit, and the number that there would be past it.
@@ -58,12 +70,14 @@ impl Refusal {
         ensures cause { HasCause (E.faults err.old) (E.faults err.new) result }
     {
         match self {
-            Refusal::Ragged(bytes) => {
-                let mut buffer = Buffer::new();
-                let bytes = buffer.format(*bytes).as_bytes();
-                put_all(err, &[b"refused 31 Ragged ", bytes, b"\n"])
-            }
+            Refusal::Ragged(bytes) => put_numbered(err, b"refused 31 Ragged ", *bytes),
             Refusal::ScrollTooLong => put_all(err, &[b"refused 32 ScrollTooLong\n"]),
+            Refusal::BadLine(line) => put_numbered(err, b"refused 41 BadLine ", *line),
+            Refusal::SameLabel(line) => put_numbered(err, b"refused 42 SameLabel ", *line),
+            Refusal::NoLabel(line) => put_numbered(err, b"refused 43 NoLabel ", *line),
+            Refusal::ValueTooLarge(line) => put_numbered(err, b"refused 44 ValueTooLarge ", *line),
+            Refusal::TooManyWords => put_all(err, &[b"refused 45 TooManyWords\n"]),
+            Refusal::TextTooLong => put_all(err, &[b"refused 46 TextTooLong\n"]),
         }
     }
 }
@@ -178,4 +192,15 @@ fn put_all<E: Sink>(err: &mut E, pieces: &[&[u8]]) -> Result<(), Failed>
         }
     }
     Ok(())
+}
+
+// writes the text, a number and LF
+fn put_numbered<E: Sink>(err: &mut E, text: &[u8], number: usize) -> Result<(), Failed>
+    ensures appended { Appends (concat (text.now ∷ decimal number ∷ codes "\n" ∷ [])) (E.written err.old) (E.written err.new) result }
+    ensures tells { KeepsTelling (E.written err.old) (E.written err.new) }
+    ensures cause { HasCause (E.faults err.old) (E.faults err.new) result }
+{
+    let mut buffer = Buffer::new();
+    let number = buffer.format(number).as_bytes();
+    put_all(err, &[text, number, b"\n"])
 }

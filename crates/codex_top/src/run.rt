@@ -6,13 +6,12 @@ ghost use Rattle.codex_top.specs.Outside.{shelved, streams, AreCounted};
 ghost use Rattle.codex_top.specs.RunCommand.{RunEnds, WordsEnd};
 
 use crate::end::{End, end_of};
-use crate::line::{Line, Refusal};
-use crate::words::MOST_CYCLES;
+use crate::file::read_scroll;
+use crate::line::Line;
 use array_store::{MOST_ARRAYS, MOST_WORDS};
 use std::alloc::Global;
 use um_machine::{Machine, Stop};
-use um_word::{MOST_SCROLL_BYTES, ScrollFault, words_of};
-use umix_base::{Limits, Shelf, ShelfFault, Sink, Source};
+use umix_base::{Limits, Shelf, Sink, Source};
 
 const LIMITS: Limits = Limits {
     arrays: MOST_ARRAYS,
@@ -28,7 +27,7 @@ pub fn run<F: Shelf, I: Source, O: Sink>(
     input: &mut I,
     out: &mut O,
 ) -> End
-    requires { cycles ≤ MOST_CYCLES }
+    requires { cycles ≤ 2 ^ 62 }
     ensures ends { RunEnds file.now cycles
         (shelved (F.files shelf.old) (F.read_faults shelf.old) (F.write_faults shelf.old))
         (shelved (F.files shelf.new) (F.read_faults shelf.new) (F.write_faults shelf.new))
@@ -41,19 +40,9 @@ pub fn run<F: Shelf, I: Source, O: Sink>(
         (streams (I.rest input.old) (I.faults input.old) (O.written out.old) (O.faults out.old))
         (streams (I.rest input.new) (I.faults input.new) (O.written out.new) (O.faults out.new)) }
 {
-    let bytes = match shelf.read(alloc, file, MOST_SCROLL_BYTES + 1) {
-        Ok(bytes) => bytes,
-        Err(ShelfFault::Failed) => return End::Stopped(Line::ReadFault),
-        Err(ShelfFault::Memory) => return End::Stopped(Line::NoMemory),
-    };
-    match words_of(alloc, &bytes) {
-        Ok(words) => {
-            drop(bytes);
-            run_words(alloc, words, cycles, input, out)
-        }
-        Err(ScrollFault::TooLong(_)) => End::Stopped(Line::Refused(Refusal::ScrollTooLong)),
-        Err(ScrollFault::Ragged(count)) => End::Stopped(Line::Refused(Refusal::Ragged(count))),
-        Err(ScrollFault::Memory) => End::Stopped(Line::NoMemory),
+    match read_scroll(alloc, file, shelf) {
+        Ok(words) => run_words(alloc, words, cycles, input, out),
+        Err(line) => End::Stopped(line),
     }
 }
 
@@ -65,8 +54,8 @@ fn run_words<I: Source, O: Sink>(
     input: &mut I,
     out: &mut O,
 ) -> End
-    requires cycles { cycles ≤ MOST_CYCLES }
-    requires words { length (scroll words.items) ≤ MOST_SCROLL_BYTES }
+    requires cycles { cycles ≤ 2 ^ 62 }
+    requires words { length (scroll words.items) ≤ 67_108_864 }
     ensures ends { WordsEnd words.items cycles
         (streams (I.rest input.old) (I.faults input.old) (O.written out.old) (O.faults out.old))
         (streams (I.rest input.new) (I.faults input.new) (O.written out.new) (O.faults out.new)) result }

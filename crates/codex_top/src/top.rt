@@ -12,6 +12,7 @@ use crate::Status;
 use crate::end::End;
 use crate::line::Line;
 use crate::run::run;
+use crate::text::{assemble_file, list_file};
 use crate::words::{Job, job_of};
 use std::alloc::Global;
 use umix_base::{Shelf, Sink, Source};
@@ -94,6 +95,8 @@ fn work<F: Shelf, I: Source, O: Sink>(
 {
     match job {
         Job::Run { file, cycles } => run(alloc, file, cycles, shelf, input, out),
+        Job::Assemble { file, out } => assemble_file(alloc, file, out, shelf),
+        Job::List { file } => list_file(alloc, file, shelf, out),
     }
 }
 

@@ -1,6 +1,6 @@
 //! What the words of the command line ask for.
 
-ghost use Rattle.std.specs.Prelude.{◌≡◌, ◌≤◌, ℕ, [], ◌∷◌, map, string_bytes, decimal, MatchOption, Some};
+ghost use Rattle.std.specs.Prelude.{◌≡◌, ◌^◌, ◌≤◌, ℕ, [], ◌∷◌, map, string_bytes, decimal, MatchOption, Some};
 ghost use Rattle.codex_top.specs.Words.{Asks};
 ghost use Rattle.codex_top.specs.Words as plain;
 ghost use Rattle.codex_top.specs.Jobs.{work_of};
@@ -15,6 +15,10 @@ pub const MOST_CYCLES: u64 = 4_611_686_018_427_387_904;
 pub enum Job<'a> {
     /// To run the scroll in this file for so many cycles at most.
     Run { file: &'a str, cycles: u64 },
+    /// To assemble the text in `file` into the file `out`.
+    Assemble { file: &'a str, out: &'a str },
+    /// To list the words of the scroll in this file.
+    List { file: &'a str },
 }
 
 /// The job of a list of words, or `None` exactly where it asks for none.
@@ -41,6 +45,9 @@ fn job_of_two<'a>(command: &str, file: &'a str) -> Option<Job<'a>>
             cycles: MOST_CYCLES,
         });
     }
+    if command == "dis" {
+        return Some(Job::List { file });
+    }
     None
 }
 
@@ -57,13 +64,19 @@ fn job_of_three<'a>(command: &str, first: &'a str, second: &'a str) -> Option<Jo
             None => None,
         };
     }
+    if command == "asm" {
+        return Some(Job::Assemble {
+            file: first,
+            out: second,
+        });
+    }
     None
 }
 
 /// The number that a word writes in decimal, at most 2^62, or `None` exactly where it writes none.
 fn number_of(word: &str) -> Option<u64>
-    ensures { MatchOption result ((n : ℕ) → word.now ≡ decimal n → n ≤ MOST_CYCLES → ⊥)
-        (λ n. (word.now ≡ decimal n) × (n ≤ MOST_CYCLES)) }
+    ensures { MatchOption result ((n : ℕ) → word.now ≡ decimal n → n ≤ 2 ^ 62 → ⊥)
+        (λ n. (word.now ≡ decimal n) × (n ≤ 2 ^ 62)) }
 {
     let Ok(number) = word.parse::<u64>() else {
         return None;

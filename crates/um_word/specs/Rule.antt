@@ -5,7 +5,7 @@ use Rattle.std.specs.FinMap as map
 use Rattle.umix_base.specs.declared.limits.Limits.{Limits}
 use Rattle.um_word.specs.declared.op.Op.{Op}
 use Rattle.um_word.specs.declared.op.Op.TheVariants.{Alloc, Abandon}
-use Rattle.um_word.specs.State.{State, Arrays, live_arrays, live_words, reg}
+use Rattle.um_word.specs.State.{State, Arrays, live_arrays, live_words, reg, start_of}
 use Rattle.um_word.specs.Table.{Next, Goes, Stops, cycle, op_under}
 use Rattle.um_word.specs.Run.{Standing, Stands, Failed, run_by, run, is_allocation, AreLegal}
 
@@ -85,3 +85,8 @@ pub record RuleIsLegal (L : Limits) (n : ℕ) (i : Identifiers) (s : State) : Ty
 abbrev pub RulesAreLegal : Type 0
 RulesAreLegal = (L : Limits) (n : ℕ) (i : Identifiers) (s : State) →
     L.arrays < 2 ^ 32 → IsOrderly L i s.arrays → RuleIsLegal L n i s
+
+-- the run of a scroll begins orderly, where the words are no more than the limit allows
+abbrev pub RunsBeginOrderly : Type 0
+RunsBeginOrderly = (L : Limits) (words input : List ℕ) →
+    length words ≤ L.words → IsOrderly L none_made (start_of words input).arrays

@@ -1,6 +1,6 @@
 //! The bytes of a scroll and its words.
 
-ghost use Rattle.std.specs.Prelude.{◌≡◌, ℕ, ◌+◌, ◌*◌, ◌%◌, ◌≤◌, ◌<◌, ◌↔◌, length, IfOk, IfErr};
+ghost use Rattle.std.specs.Prelude.{◌≡◌, ℕ, ◌+◌, ◌*◌, ◌%◌, ◌^◌, ◌≤◌, ◌<◌, length, slice_index, IfOk, OnOk, IfErr};
 ghost use Rattle.std.specs.Int.{w32, to_be_bytes};
 ghost use Rattle.um_word.specs.Scroll.{scroll, IsScrollFault};
 
@@ -32,7 +32,8 @@ pub enum ScrollFault {
 /// over 67,108,864 bytes; else `Ragged` exactly where their count is no multiple of 4.
 pub fn words_of(alloc: Global, bytes: &[u8]) -> Result<Vec<u32>, ScrollFault>
     ensures words { IfOk result (λ words. scroll words.items ≡ bytes.now) }
-    ensures fits { IfOk result (λ words. length bytes.now ≤ MOST_SCROLL_BYTES) }
+    ensures fits { OnOk result (length bytes.now ≤ 67_108_864) }
+    ensures platters { IfOk result (λ words. (at : ℕ) → slice_index words.items at < 2 ^ 32) }
     ensures fault { IfErr result (λ fault. IsScrollFault bytes.now fault) }
 {
     if bytes.len() > MOST_SCROLL_BYTES {
@@ -41,12 +42,23 @@ pub fn words_of(alloc: Global, bytes: &[u8]) -> Result<Vec<u32>, ScrollFault>
     if bytes.len() % 4 != 0 {
         return Err(ScrollFault::Ragged(bytes.len()));
     }
-    read_words(alloc, bytes).map_err(|_| ScrollFault::Memory)
+    match read_words(alloc, bytes) {
+        Ok(words) => Ok(words),
+        Err(_) => Err(ScrollFault::Memory),
+    }
+}
+
+// a word has 32 bits: a fact of its type
+fn words_fit(words: &[u32])
+    ensures { (at : ℕ) → slice_index words.now at < 2 ^ 32 }
+{
+    let _ = words;
 }
 
 fn read_words(alloc: Global, bytes: &[u8]) -> Result<Vec<u32>, Memory>
     requires { length bytes.now % 4 ≡ 0 }
-    ensures { IfOk result (λ words. scroll words.items ≡ bytes.now) }
+    ensures words { IfOk result (λ words. scroll words.items ≡ bytes.now) }
+    ensures platters { IfOk result (λ words. (at : ℕ) → slice_index words.items at < 2 ^ 32) }
 {
     let mut words = Vec::with_capacity(alloc, bytes.len() / 4)?;
     let mut rest = bytes;
@@ -55,6 +67,7 @@ fn read_words(alloc: Global, bytes: &[u8]) -> Result<Vec<u32>, Memory>
         words.push(word_from(four))?;
         rest = more;
     }
+    words_fit(&words);
     Ok(words)
 }
 

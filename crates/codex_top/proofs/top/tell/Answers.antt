@@ -6,7 +6,7 @@ pub returns-in-Done : goal.returns-in-Done
 returns-in-Done g c = rw c.in-Done.is (nothing refl refl)
 
 pub returns-in-Ok : goal.returns-in-Ok
-returns-in-Ok g c = rw (c.in-Stopped.is, c.status.ensures) (whole c.in-Stopped.line c.in-Ok.ensures.appended)
+returns-in-Ok g c = rw (c.in-Stopped.is, c.status.ensures) (whole c.in-Stopped.line c.in-Ok.ensures.appended c.in-Ok.ensures.cause.later)
 
 pub returns-in-Err : goal.returns-in-Err
 returns-in-Err g c =
