@@ -1,0 +1,15 @@
+pub mod Agree
+pub mod BoxAt
+pub mod CellsEnd
+pub mod Choices
+pub mod Decide
+pub mod Equal
+pub mod Fits
+pub mod FrameAt
+pub mod Heads
+pub mod InOrder
+pub mod LiveCorners
+pub mod Parts
+pub mod ReadingOrder
+pub mod Shown
+pub mod Tokens

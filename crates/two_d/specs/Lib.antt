@@ -1,1 +1,11 @@
+pub mod Boxes
+pub mod Canonical
+pub mod Cells
+pub mod Faults
+pub mod Figures
+pub mod Frames
+pub mod Grammar
 pub mod Names
+pub mod Places
+pub mod Reading
+pub mod Trees

@@ -1,0 +1,9 @@
+pub mod Answers
+pub mod Choosing
+pub mod Exact
+pub mod Mirrors
+pub mod Naming
+pub mod Outs
+pub mod Runs
+pub mod Verdicts
+pub mod Whole
