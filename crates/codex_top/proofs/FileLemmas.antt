@@ -1,10 +1,10 @@
 -- What a file holds of which the first bytes were read.
-use Rattle.std.proofs.Common.{◌≡◌, ◌≤◌, ◌<◌, ◌+◌, ◌*◌, ℕ, zero, suc, List, [], ◌∷◌, length, take, min, Option, Some, None, refl, sym, ap, ◌∙◌, subst, arith}
-use Rattle.std.specs.Prelude.{Result, Ok, Err, IfOk, IfErr, Vec, option_map, ◌++◌}
+use Rattle.std.proofs.Common.{◌≡◌, ◌≤◌, ◌<◌, ◌+◌, ◌*◌, ℕ, zero, suc, List, [], ◌∷◌, length, take, min, Option, Some, None, refl, sym, ap, ◌∙◌, arith}
+use Rattle.std.specs.Prelude.{Result, Ok, Err, IfOk, IfErr, Vec, option_map}
 use Rattle.std.specs.Int.{w32, to_be_bytes}
 use Rattle.std.specs.declared.alloc.Global.{Global}
 use Rattle.std.specs.FinMap as map
-use Rattle.std.proofs.lemmas.List.{length-take, length-append, take-append-le, append-nil}
+use Rattle.std.proofs.lemmas.List.{length-take, length-append}
 use Rattle.umix_base.specs.declared.shelf.ShelfFault.TheVariants as shelf
 use Rattle.umix_base.specs.Causes.{KeepsTelling}
 use Rattle.umix_base.specs.Files.{Files, ReadsFile, WritesFile}

@@ -1,13 +1,12 @@
 -- A run over a sink that has received something is the run from the start, whose bytes went behind.
-use Rattle.std.proofs.Common.{◌≡◌, ℕ, ◌<◌, List, [], ◌++◌, Bool, true, false, Option, Some, None, refl, sym, ap, ◌∙◌, subst, ◌⊎◌, inl, inr, is_some}
+use Rattle.std.proofs.Common.{◌≡◌, ℕ, List, ◌++◌, Option, Some, None, refl, sym, ap, ◌∙◌, subst, inl, inr}
 use Rattle.std.specs.Prelude.{option_map}
 use Rattle.std.proofs.lemmas.List.{append-nil}
-use Rattle.umix_base.specs.declared.limits.Limits.{Limits}
 use Rattle.umix_base.specs.Causes.{Rose, KeepsTelling}
 use Rattle.um_word.specs.State.{State, start_of}
 use Rattle.um_word.specs.Table.{Next, Goes, Stops, cycle, op_under}
 use Rattle.um_word.specs.Run.{Standing, Stands, Failed}
-use Rattle.um_word.specs.Rule.{Identifiers, none_made, next_identifier, ruled}
+use Rattle.um_word.specs.Rule.{Identifiers, none_made, next_identifier}
 use Rattle.um_machine.specs.declared.stop.Stop.{Stop}
 use Rattle.um_machine.specs.declared.stop.Stop.TheVariants.{ReadFault, WriteFault, Memory}
 use Rattle.um_machine.specs.Core.{Core, state_of, machine_of}
@@ -16,7 +15,7 @@ use Rattle.um_machine.specs.Stops.{end_of, MayFail}
 use Rattle.um_machine.specs.Runs.{MayStandIn, Leads, EndsAs, Remains, EndsEarly, RunEnds}
 use Rattle.codex_top.specs.Outside.{Streams}
 use Rattle.codex_top.specs.Endings.{end_of_run}
-use Rattle.codex_top.specs.RunCommand.{limits, run_of, StandsAt, FailsAt, StopsAt, Runs, WordsEnd, ran}
+use Rattle.codex_top.specs.RunCommand.{limits, run_of, StandsAt, FailsAt, StopsAt, WordsEnd, ran}
 use Rattle.codex_top.proofs.Outputs.{prefixed, next_prefixed, standing_prefixed, cycle_alike, run_alike}
 
 standing_back : (h : List ℕ) (x : Standing Identifiers) (t : State) (i : Identifiers) → standing_prefixed h x ≡ Stands t i →

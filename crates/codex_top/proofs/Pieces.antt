@@ -1,10 +1,10 @@
 -- What a sink has received of pieces that are written one after another.
-use Rattle.std.proofs.Common.{◌≡◌, ◌≤◌, ◌<◌, ◌+◌, ℕ, suc, List, [], ◌∷◌, ◌++◌, length, take, drop, Option, Some, None, refl, sym, ap, ◌∙◌, arith}
+use Rattle.std.proofs.Common.{◌≡◌, ◌≤◌, ◌<◌, ◌+◌, ℕ, suc, List, ◌++◌, length, take, drop, Option, Some, None, sym, ap, ◌∙◌, arith}
 use Rattle.std.specs.Option.{option_map}
 use Rattle.std.specs.List.{flat_map}
 use Rattle.std.proofs.Common.{Bor, get_or}
 use Rattle.std.proofs.lemmas.Grind.{flat_map-append}
-use Rattle.std.proofs.lemmas.List.{append_assoc, take-append-drop, take-append-le, length-append, take_more}
+use Rattle.std.proofs.lemmas.List.{append_assoc, take-append-drop, take-append-le, length-append}
 use Rattle.std.proofs.Math.Seq.{take-append-add, drop-cons}
 
 -- bytes that were written after others

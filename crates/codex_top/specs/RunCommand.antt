@@ -5,7 +5,7 @@ use Rattle.umix_base.specs.declared.limits.Limits.{Limits}
 use Rattle.umix_base.specs.Causes.{Rose}
 use Rattle.array_store.specs.declared.store.TheConstants.{MOST_ARRAYS, MOST_WORDS}
 use Rattle.um_word.specs.State.{State, start_of}
-use Rattle.um_word.specs.Table.{Next, Goes, cycle, op_under}
+use Rattle.um_word.specs.Table.{Goes, cycle, op_under}
 use Rattle.um_word.specs.Run.{Standing, Stands, Failed}
 use Rattle.um_word.specs.Rule.{Identifiers, none_made, next_identifier, ruled}
 use Rattle.um_machine.specs.declared.stop.Stop.{Stop}

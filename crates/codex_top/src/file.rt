@@ -33,11 +33,7 @@ pub fn read_file<F: Shelf>(
 }
 
 /// The words of a file that is a scroll, or the line that tells why there are none.
-pub fn read_scroll<F: Shelf>(
-    alloc: Global,
-    file: &str,
-    shelf: &mut F,
-) -> Result<Vec<u32>, Line>
+pub fn read_scroll<F: Shelf>(alloc: Global, file: &str, shelf: &mut F) -> Result<Vec<u32>, Line>
     ensures read { ScrollRead file.now
         (shelved (F.files shelf.old) (F.read_faults shelf.old) (F.write_faults shelf.old))
         (shelved (F.files shelf.new) (F.read_faults shelf.new) (F.write_faults shelf.new)) result }

@@ -1,4 +1,4 @@
-use Rattle.std.proofs.Common.{◌≡◌, ◌≤◌, ◌<◌, length, refl, sym, subst, ◌∙◌, ap}
+use Rattle.std.proofs.Common.{◌≡◌, ◌≤◌, ◌<◌, length, sym, subst, ◌∙◌}
 use Rattle.std.specs.Prelude.{Err, Ok}
 use Rattle.um_word.specs.declared.scroll.TheConstants.{MOST_SCROLL_BYTES}
 use Rattle.um_word.specs.Scroll.{scroll, IsScrollFault}

@@ -1,4 +1,4 @@
-use Rattle.std.proofs.Common.{◌≡◌, [], suc, drop}
+use Rattle.std.proofs.Common.{[], suc, drop}
 use Rattle.std.specs.List.{flat_map}
 use Rattle.codex_top.proofs.Pieces.{begun_after, pieces_around}
 use Rattle.codex_top.proofs.line.put_all.Goals as goal

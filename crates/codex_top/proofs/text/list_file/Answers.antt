@@ -1,5 +1,4 @@
-use Rattle.std.proofs.Common.{refl, subst, ap, ◌∙◌}
-use Rattle.std.specs.Prelude.{option_map, ◌++◌, length, take, ◌≤◌}
+use Rattle.std.proofs.Common.{refl, ap, ◌∙◌}
 use Rattle.um_asm.specs.Listing.{listing}
 use Rattle.codex_top.specs.TextCommands.{unread, no_memory, listed, cut}
 use Rattle.codex_top.proofs.text.list_file.Goals as goal

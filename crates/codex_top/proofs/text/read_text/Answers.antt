@@ -1,9 +1,8 @@
-use Rattle.std.proofs.Common.{◌≡◌, ◌≤◌, ◌<◌, length, sym, subst, ◌∙◌, ap, inl, inr, arith}
-use Rattle.std.specs.Prelude.{Err, Ok, Result}
-use Rattle.um_asm.specs.declared.fault.AsmFault.{AsmFault}
+use Rattle.std.proofs.Common.{◌≡◌, ◌≤◌, length, sym, subst, ◌∙◌, inl, inr, arith}
+use Rattle.std.specs.Prelude.{Err, Ok}
 use Rattle.um_asm.specs.Assembly.{assembled}
 use Rattle.codex_top.specs.declared.text.TheConstants.{MOST_TEXT_BYTES}
-use Rattle.codex_top.specs.TextCommands.{TextRead, line_of, words, too_long, faulty, no_memory}
+use Rattle.codex_top.specs.TextCommands.{words, too_long, faulty, no_memory}
 use Rattle.codex_top.proofs.FileLemmas.{seen_of, no_text}
 use Rattle.codex_top.proofs.text.read_text.Goals as goal
 
@@ -29,6 +28,6 @@ returns-clause-read g c =
     let fits : length c.in-Ok.text.items ≤ MOST_TEXT_BYTES = omega (arith, c.if-len-gt-MOST_TEXT_BYTES.false, c.len.ensures) in
     let is : c.deref.result.now ≡ s.held = c.deref.ensures.value ∙ sym (s.whole fits) in
     rw c.line_of.ensures (elim c.in-Err-assemble.ensures.fault [
-      inl e ↦ rw e no_memory
-    | inr e ↦ faulty s.held c.in-Err-assemble.fault s.has (subst (λ text. length text ≤ MOST_TEXT_BYTES) (sym (s.whole fits)) fits) (subst (λ text. assembled text ≡ Err c.in-Err-assemble.fault) is e)
+      | inl e ↦ rw e no_memory
+      | inr e ↦ faulty s.held c.in-Err-assemble.fault s.has (subst (λ text. length text ≤ MOST_TEXT_BYTES) (sym (s.whole fits)) fits) (subst (λ text. assembled text ≡ Err c.in-Err-assemble.fault) is e)
     ])

@@ -1,5 +1,5 @@
-use Rattle.std.proofs.Common.{rules, ◌≡◌, ℕ, sym, ap, ◌∙◌, arith, true, false, not}
-use Rattle.std.specs.Prelude.{decimal, Result, Ok, Err}
+use Rattle.std.proofs.Common.{rules, ◌≡◌, sym, ap, ◌∙◌, arith, true, false, not}
+use Rattle.std.specs.Prelude.{decimal, Ok, Err}
 use Rattle.std.proofs.lemmas.Fmt.{parse-decimal}
 use Rattle.std.proofs.lemmas.Slice.Eq.{bytes_eq-Decides}
 use Rattle.codex_top.proofs.words.number_of.Goals as goal

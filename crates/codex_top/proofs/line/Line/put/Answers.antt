@@ -1,4 +1,3 @@
-use Rattle.std.proofs.Common.{◌≡◌}
 use Rattle.codex_top.proofs.line.Line.put.Goals as goal
 
 pub returns-in-Limited-clause-appended : goal.returns-in-Limited-clause-appended
