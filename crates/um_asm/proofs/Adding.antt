@@ -34,10 +34,6 @@ or_none : (o : Option Definition) → option_or o None ≡ o
 or_none None = refl
 or_none (Some d) = refl
 
-or_known : (o p : Option Definition) → is_some o ≡ true → option_or o p ≡ o
-or_known None p h = cc
-or_known (Some d) p h = refl
-
 -- a name that is absent is added
 pub adds_absent : (m n : Definitions) (name : Name) (d : Definition) → ((q : Name) → get same_name n q ≡ cond (same_name name q) (Some d) (get same_name m q))
     → is_some (meaning_in m name.scope name.text.now) ≡ false → Adds m n (named_by name d ∷ [])
@@ -51,16 +47,3 @@ adds_absent m n name d updates absent scope text = updates (key_of scope text) �
         let same_text : name.text.now ≡ text = (bytes_eq-Decides name.text.now text).0 parts.1 in
         let here : meaning_in m scope text ≡ None = rw (← same_scope, ← same_text) (nothing_known (meaning_in m name.scope name.text.now) absent) in
         rw here refl
-
--- a name that is known stays
-pub adds_known : (m : Definitions) (name : Name) (d : Definition) → is_some (meaning_in m name.scope name.text.now) ≡ true → Adds m m (named_by name d ∷ [])
-adds_known m name d known scope text = by_test (same_name name (key_of scope text)) refl
-  where
-    by_test : (b : Bool) → same_name name (key_of scope text) ≡ b → meaning_in m scope text ≡ option_or (meaning_in m scope text) (option_map (λ d. d.definition) (cond b (Some (named_by name d)) None))
-    by_test false e = sym (or_none (meaning_in m scope text))
-    by_test true e =
-        let parts = and_parts (option_eq nat_eq name.scope scope) (bytes_eq name.text.now text) e in
-        let same_scope : name.scope ≡ scope = scope_same name.scope scope parts.0 in
-        let same_text : name.text.now ≡ text = (bytes_eq-Decides name.text.now text).0 parts.1 in
-        let here : is_some (meaning_in m scope text) ≡ true = rw (← same_scope, ← same_text) known in
-        sym (or_known (meaning_in m scope text) (Some d) here)

@@ -100,13 +100,6 @@ end_same front back some h =
     start_same (reverse back) (reverse front) (omega (arith, length-reverse back)) (all_reversed (λ b. not (b == 32)) back h) in
     rw (reverse-append front back, same, ← reverse-append front back) (reverse-reverse (front ++ back))
 
--- one token or more, from a first to a last one
-pub trimmed_same : (front middle back : List ℕ) → 0 < length front → lacks 32 front ≡ true → 0 < length back → lacks 32 back ≡ true
-    → trimmed ((front ++ middle) ++ back) ≡ (front ++ middle) ++ back
-trimmed_same front middle back some h more k =
-    let start : trimmed_start ((front ++ middle) ++ back) ≡ (front ++ middle) ++ back = rw append_assoc (start_same front (middle ++ back) some h) in
-    rw start (end_same (front ++ middle) back more k)
-
 -- a token
 pub record Clean (token : List ℕ) : Type 0 where
   pub some : 0 < length token

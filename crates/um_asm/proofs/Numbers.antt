@@ -115,10 +115,6 @@ pub hex_step : (digits : List ℕ) → 8 ≤ length digits → hex_words digits 
 hex_step (a ∷ b ∷ c ∷ d ∷ e ∷ f ∷ g ∷ h ∷ digits) long = refl
 hex_step _ long = absurd (omega (arith, long))
 
-pub hex_short : (digits : List ℕ) → length digits < 8 → hex_words digits ≡ []
-hex_short (a ∷ b ∷ c ∷ d ∷ e ∷ f ∷ g ∷ h ∷ digits) short = absurd (omega (arith, short))
-hex_short _ short = refl
-
 -- the word of the next eight digits goes to those before it
 pub hex_next : (old new : List ℕ) (word : ℕ) (rest eight behind all : List ℕ) → 8 ≤ length rest → eight ≡ take 8 rest → behind ≡ drop 8 rest
     → word ≡ digits_value 16 eight → new ≡ old ++ word ∷ [] → old ++ hex_words rest ≡ all → new ++ hex_words behind ≡ all

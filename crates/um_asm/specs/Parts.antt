@@ -14,7 +14,7 @@ use Rattle.um_asm.specs.declared.fault.AsmFault.{AsmFault}
 use Rattle.um_asm.specs.declared.fault.AsmFault.TheVariants.{Memory}
 use Rattle.um_word.specs.Operators.{IsEncodable}
 use Rattle.um_asm.specs.Lines.{size_of, are_hex_words}
-use Rattle.um_asm.specs.Scopes.{Said, Standing, standing, block_after, scope_of}
+use Rattle.um_asm.specs.Scopes.{Said, block_after, scope_of}
 
 abbrev pub Part : Type 0
 Part = Bor (List ℕ)
@@ -56,10 +56,6 @@ block_at p = option_map block_read p.block
 abbrev pub IsBehind : (place : ℕ) → Option (Block (List ℕ)) → Type 0
 IsBehind place None = Unit {0}
 IsBehind place (Some block) = block.first ≤ place
-
--- the next lines, from this position on
-abbrev pub ahead : Position Part → List Said → List Standing
-ahead p lines = standing p.number (block_at p) p.place lines
 
 -- the line of the block that isn't ended, where the next lines begin so
 abbrev pub unended_from : (number : ℕ) → Option (Block (List ℕ)) → (place : ℕ) → List Said → Option ℕ

@@ -44,7 +44,8 @@ pub fn assemble(alloc: Global, text: &[u8]) -> Result<Vec<u32>, AsmFault>
 
 fn words_of<'a>(alloc: Global, text: &'a [u8], labels: &Labels<'a>) -> Result<Vec<u32>, AsmFault>
     requires { labels.now.unended ≡ unended_from 1 None 0 (said_by text.now) }
-    ensures { let words = lines_words (meaning_in labels.now.definitions) (all_standing (said_by text.now)) in
+    ensures { let meaning = meaning_in labels.now.definitions in
+        let words = lines_words meaning (all_standing (said_by text.now)) in
         MatchResult result (λ v. words ≡ Ok v.items) (λ e. (e ≡ fault.Memory) ⊎ (words ≡ Err e)) }
 {
     let mut words = Vec::new(alloc);
@@ -67,7 +68,8 @@ fn standing_line<'a>(
 ) -> Option<Line<&'a [u8]>>
     requires { IfSome line.now HasRight }
     ensures line { said_read result
-        ≡ said_in labels.now.unended position.now.number (block_at position.now) (said_read line.now) }
+        ≡ said_in labels.now.unended position.now.number (block_at position.now)
+        (said_read line.now) }
     ensures right { IfSome result HasRight }
 {
     match (*line, position.block) {

@@ -65,7 +65,8 @@ fn unlabelled_at(text: &[u8]) -> Option<Line<&[u8]>>
 
 fn array_at(operands: Option<&[u8]>) -> Option<Line<&[u8]>>
     ensures right { IfSome result HasRight }
-    ensures line { option_map line_read result ≡ array_at (operands_in (option_copied operands.entry)) }
+    ensures line { option_map line_read result
+        ≡ array_at (operands_in (option_copied operands.entry)) }
 {
     let name = one_operand(operands)?;
     if is_label(name) {
@@ -77,7 +78,8 @@ fn array_at(operands: Option<&[u8]>) -> Option<Line<&[u8]>>
 
 fn end_at(operands: Option<&[u8]>) -> Option<Line<&[u8]>>
     ensures right { IfSome result HasRight }
-    ensures line { option_map line_read result ≡ end_at (operands_in (option_copied operands.entry)) }
+    ensures line { option_map line_read result
+        ≡ end_at (operands_in (option_copied operands.entry)) }
 {
     match operands {
         None => Some(Line::End),
@@ -113,7 +115,8 @@ fn statement_at(text: &[u8]) -> Option<Statement<&[u8]>>
 
 fn word_at(operands: Option<&[u8]>) -> Option<Statement<&[u8]>>
     ensures right { IfSome result IsRight }
-    ensures statement { option_map statement_read result ≡ word_at (operands_in (option_copied operands.entry)) }
+    ensures statement { option_map statement_read result
+        ≡ word_at (operands_in (option_copied operands.entry)) }
 {
     let token = one_operand(operands)?;
     let value = value_at(token)?;
@@ -122,7 +125,8 @@ fn word_at(operands: Option<&[u8]>) -> Option<Statement<&[u8]>>
 
 fn hex_at(operands: Option<&[u8]>) -> Option<Statement<&[u8]>>
     ensures right { IfSome result IsRight }
-    ensures statement { option_map statement_read result ≡ hex_at (operands_in (option_copied operands.entry)) }
+    ensures statement { option_map statement_read result
+        ≡ hex_at (operands_in (option_copied operands.entry)) }
 {
     let digits = one_operand(operands)?;
     if is_numeral(digits, 16) && digits.len() % 8 == 0 && digits.len() <= 64 {

@@ -139,3 +139,20 @@ fn lists_words(rt: HostRuntime) -> Result<(), Fail> {
     assert_eq!(rt; text.as_slice(), expected.as_slice());
     Ok(())
 }
+
+#[test]
+fn tells_each_fault(rt: HostRuntime) -> Result<(), Fail> {
+    let faults = [
+        (AsmFault::BadLine(1), "BadLine"),
+        (AsmFault::SameLabel(2), "SameLabel"),
+        (AsmFault::NoLabel(3), "NoLabel"),
+        (AsmFault::ValueTooLarge(4), "ValueTooLarge"),
+        (AsmFault::TooLong, "TooLong"),
+        (AsmFault::Memory, "Memory"),
+    ];
+    for (fault, message) in &faults {
+        let told = format!(in rt.alloc(); "{fault}")?;
+        assert_eq!(rt; told.as_str(), *message);
+    }
+    Ok(())
+}

@@ -18,6 +18,8 @@ struct Row<'a> {
     out: &'a [u8],
     err: &'a str,
     status: Status,
+    /// What the file `o` holds after, if it is there.
+    written: Option<&'a [u8]>,
 }
 
 /// Whose first call fails.
@@ -62,6 +64,7 @@ fn check<R: Abort + AllocGlobal>(rt: &R, row: &Row<'_>) -> Result<(), Fail> {
     assert_eq!(rt; status, row.status);
     assert_eq!(rt; out.bytes(), row.out);
     assert_eq!(rt; err.bytes(), row.err.as_bytes());
+    assert_eq!(rt; shelf.file("o"), row.written);
     Ok(())
 }
 
@@ -80,6 +83,7 @@ fn run<'a>(file: &'a [u8], out: &'a [u8], err: &'a str, status: Status) -> Row<'
         out,
         err,
         status,
+        written: None,
     }
 }
 
@@ -205,6 +209,7 @@ fn words<'a>(words: &'a [&'a str], out: &'a [u8], err: &'a str, status: Status) 
         out,
         err,
         status,
+        written: None,
     }
 }
 
@@ -260,6 +265,7 @@ fn failing<'a>(
         out,
         err,
         status,
+        written: None,
     }
 }
 
@@ -273,6 +279,71 @@ fn failures_outside(rt: HostRuntime) -> Result<(), Fail> {
         failing(Fails::Out, HELLO, b"", "write fault\n", Status::WriteFault),
         failing(Fails::Err, &[0x50, 0, 0, 0], b"", "", Status::WriteFault),
         failing(Fails::Err, HELLO, b"A", "", Status::Done),
+    ];
+    for row in &rows {
+        check(&rt, row)?;
+    }
+    Ok(())
+}
+
+// a text that is assembled into `o`, or refused with this line
+fn text<'a>(text: &'a str, written: Option<&'a [u8]>, err: &'a str, status: Status) -> Row<'a> {
+    Row {
+        words: &["asm", "f", "o"],
+        file: text.as_bytes(),
+        input: &[],
+        fails: Fails::None,
+        out: b"",
+        err,
+        status,
+        written,
+    }
+}
+
+#[test]
+fn texts(rt: HostRuntime) -> Result<(), Fail> {
+    let rows = [
+        text("set r0, 65\nout r0\nhalt\n", Some(HELLO), "", Status::Done),
+        text("", Some(b""), "", Status::Done),
+        text(
+            "set r0, 33554432\n",
+            None,
+            "refused 44 ValueTooLarge 1\n",
+            Status::Refused,
+        ),
+        text(
+            ".hex 7000020\n",
+            None,
+            "refused 41 BadLine 1\n",
+            Status::Refused,
+        ),
+        text(
+            "a: halt\na: halt\n",
+            None,
+            "refused 42 SameLabel 2\n",
+            Status::Refused,
+        ),
+        text(
+            "\nset r0, b\n",
+            None,
+            "refused 43 NoLabel 2\n",
+            Status::Refused,
+        ),
+        words(
+            &["asm", "none.s", "o"],
+            b"",
+            "read fault\n",
+            Status::ReadFault,
+        ),
+        words(&["asm", "f"], b"", USAGE, Status::Usage),
+        words(
+            &["dis", "f"],
+            b"set r0, 65\nout r0\nhalt\n",
+            "",
+            Status::Done,
+        ),
+        words(&["dis", "none.um"], b"", "read fault\n", Status::ReadFault),
+        words(&["dis", "f", "o"], b"", USAGE, Status::Usage),
     ];
     for row in &rows {
         check(&rt, row)?;
