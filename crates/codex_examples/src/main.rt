@@ -1,4 +1,4 @@
-//! Assembles each example text into a scroll, runs it, and lists the first one.
+//! Assembles each example text into a scroll, runs it, and lists the last one.
 #![tactic(auto)]
 
 use codex_top::{Status, codex};

@@ -32,7 +32,8 @@ refusal_pieces ScrollTooLong = codes "refused 32 ScrollTooLong\n" ∷ []
 refusal_pieces (BadLine line) = codes "refused 41 BadLine " ∷ decimal line ∷ codes "\n" ∷ []
 refusal_pieces (SameLabel line) = codes "refused 42 SameLabel " ∷ decimal line ∷ codes "\n" ∷ []
 refusal_pieces (NoLabel line) = codes "refused 43 NoLabel " ∷ decimal line ∷ codes "\n" ∷ []
-refusal_pieces (ValueTooLarge line) = codes "refused 44 ValueTooLarge " ∷ decimal line ∷ codes "\n" ∷ []
+refusal_pieces (ValueTooLarge line) =
+    codes "refused 44 ValueTooLarge " ∷ decimal line ∷ codes "\n" ∷ []
 refusal_pieces TooManyWords = codes "refused 45 TooManyWords\n" ∷ []
 refusal_pieces TextTooLong = codes "refused 46 TextTooLong\n" ∷ []
 
@@ -40,7 +41,8 @@ refusal_pieces TextTooLong = codes "refused 46 TextTooLong\n" ∷ []
 abbrev pub pieces_of : Line → List (List ℕ)
 pieces_of Usage = codes "usage: check F | eval F [PICKS [N]] | trace F PICKS N | compile F OUT | run F [N] | asm F OUT | dis F | debug F INPUT | selftest N\n" ∷ []
 pieces_of (Refused refusal) = refusal_pieces refusal
-pieces_of (Fault stop cycle) = codes "fault " ∷ name_of stop ∷ codes " at cycle " ∷ decimal cycle ∷ codes "\n" ∷ []
+pieces_of (Fault stop cycle) =
+    codes "fault " ∷ name_of stop ∷ codes " at cycle " ∷ decimal cycle ∷ codes "\n" ∷ []
 pieces_of (Limited limit cycle) =
     codes "limit " ∷ limit_name limit ∷ codes " at cycle " ∷ decimal cycle ∷ codes ": "
     ∷ decimal (limit_count limit) ∷ codes " over " ∷ decimal (limit_of limit) ∷ codes "\n" ∷ []

@@ -10,7 +10,8 @@ pub record Shelved : Type 0 where
   pub read_faults : ℕ
   pub write_faults : ℕ
 
--- the rest of the input and what the output has received, where each is told, and the counts of their faults
+-- the rest of the input and what the output has received, where each is told, and the counts of their
+-- faults
 pub record Streams : Type 0 where
   pub input : Option (List ℕ)
   pub input_faults : ℕ
@@ -18,7 +19,11 @@ pub record Streams : Type 0 where
   pub output_faults : ℕ
 
 abbrev pub shelved : Option Files → (read_faults write_faults : ℕ) → Shelved
-shelved files read_faults write_faults = record { files = files; read_faults = read_faults; write_faults = write_faults }
+shelved files read_faults write_faults = record {
+  files = files;
+  read_faults = read_faults;
+  write_faults = write_faults;
+}
 
 abbrev pub streams : Option (List ℕ) → ℕ → Option (List ℕ) → ℕ → Streams
 streams input input_faults output output_faults = record {

@@ -10,23 +10,39 @@ use Rattle.codex_top.specs.declared.line.Line.{Line}
 use Rattle.codex_top.specs.declared.line.Line.TheVariants.{ReadFault, NoMemory, Refused}
 use Rattle.codex_top.specs.Outside.{Shelved, MayHave}
 
+-- the shelf's count of reads rose, or it tells its files and hasn't this one
+abbrev pub IsUnreadable : List ℕ → Shelved → Shelved → Type 0
+IsUnreadable file before now = Rose before.read_faults now.read_faults ⊎ Lacks before.files file
+
 -- The bytes of a file, or where it has more than `most`, more than `most` bytes; or the line that tells
 -- why there are none.
-pub data FileRead (file : List ℕ) (most : ℕ) (before now : Shelved) : Result (Vec ℕ Global) Line → Type 0 where
-  had : (held : List ℕ) (bytes : Vec ℕ Global) → MayHave before.files file held → (length bytes.items ≤ most → held ≡ bytes.items) → (most < length bytes.items → most < length held) →
+pub data FileRead (file : List ℕ) (most : ℕ) (before now : Shelved) :
+    Result (Vec ℕ Global) Line → Type 0 where
+  had : (held : List ℕ) (bytes : Vec ℕ Global) →
+      MayHave before.files file held →
+      (length bytes.items ≤ most → held ≡ bytes.items) →
+      (most < length bytes.items → most < length held) →
       FileRead file most before now (Ok bytes)
-  unread : Rose before.read_faults now.read_faults ⊎ Lacks before.files file → FileRead file most before now (Err ReadFault)
+  unread : IsUnreadable file before now → FileRead file most before now (Err ReadFault)
   no_memory : FileRead file most before now (Err NoMemory)
 
 -- why a file is no scroll
 abbrev pub IsNoScroll : List ℕ → Refusal → Type 0
 IsNoScroll bytes ScrollTooLong = 67_108_864 < length bytes
-IsNoScroll bytes (Ragged count) = (length bytes ≤ 67_108_864) × (count ≡ length bytes) × (length bytes % 4 ≢ 0)
+IsNoScroll bytes (Ragged count) =
+    (length bytes ≤ 67_108_864) × (count ≡ length bytes) × (length bytes % 4 ≢ 0)
 IsNoScroll bytes refusal = ⊥
 
 -- the words of 32 bits of a file that is a scroll, or the line that tells why there are none
-pub data ScrollRead (file : List ℕ) (before now : Shelved) : Result (Vec ℕ Global) Line → Type 0 where
-  words : (words : Vec ℕ Global) → ((at : ℕ) → slice_index words.items at < 2 ^ 32) → MayHave before.files file (scroll words.items) → length (scroll words.items) ≤ 67_108_864 → ScrollRead file before now (Ok words)
-  refused : (bytes : List ℕ) (refusal : Refusal) → MayHave before.files file bytes → IsNoScroll bytes refusal → ScrollRead file before now (Err (Refused refusal))
-  unread : Rose before.read_faults now.read_faults ⊎ Lacks before.files file → ScrollRead file before now (Err ReadFault)
+pub data ScrollRead (file : List ℕ) (before now : Shelved) :
+    Result (Vec ℕ Global) Line → Type 0 where
+  words : (words : Vec ℕ Global) →
+      ((at : ℕ) → slice_index words.items at < 2 ^ 32) →
+      MayHave before.files file (scroll words.items) →
+      length (scroll words.items) ≤ 67_108_864 →
+      ScrollRead file before now (Ok words)
+  refused : (bytes : List ℕ) (refusal : Refusal) →
+      MayHave before.files file bytes → IsNoScroll bytes refusal →
+      ScrollRead file before now (Err (Refused refusal))
+  unread : IsUnreadable file before now → ScrollRead file before now (Err ReadFault)
   no_memory : ScrollRead file before now (Err NoMemory)

@@ -57,7 +57,8 @@ StopsAt words input cycles t stop = StandsAt (run_of words input cycles) t stop
 
 -- The scroll was run: its input may be taken to be that of the source, whose rest is left; what the run
 -- wrote went out; and where the outside failed, its count rose.
-pub record Runs (words : List ℕ) (cycles : ℕ) (before now : Streams) (t : State) (stop : Stop) : Type 0 where
+pub record Runs (words : List ℕ) (cycles : ℕ) (before now : Streams) (t : State) (stop : Stop) :
+    Type 0 where
   pub input : List ℕ
   pub had : MayRest before.input input
   pub stops : StopsAt words input cycles t stop
@@ -69,10 +70,14 @@ pub record Runs (words : List ℕ) (cycles : ℕ) (before now : Streams) (t : St
 -- how the words of a scroll end: in a run, or there was no memory for them
 pub data WordsEnd (words : List ℕ) (cycles : ℕ) (before now : Streams) : End → Type 0 where
   no_memory : now ≡ before → WordsEnd words cycles before now (Stopped line.NoMemory)
-  ran : (t : State) (stop : Stop) → Runs words cycles before now t stop → WordsEnd words cycles before now (end_of_run cycles t.cycles stop)
+  ran : (t : State) (stop : Stop) → Runs words cycles before now t stop →
+      WordsEnd words cycles before now (end_of_run cycles t.cycles stop)
 
 -- how `run` of a file ends: until the scroll runs, input and output are untouched
-pub data RunEnds (file : List ℕ) (cycles : ℕ) (shelf_before shelf_now : Shelved) (before now : Streams) : End → Type 0 where
-  unread : (line : Line) → ScrollRead file shelf_before shelf_now (Err line) → now ≡ before → RunEnds file cycles shelf_before shelf_now before now (Stopped line)
-  read : (words : Vec ℕ Global) (end : End) → ScrollRead file shelf_before shelf_now (Ok words) → WordsEnd words.items cycles before now end →
+pub data RunEnds (file : List ℕ) (cycles : ℕ) (shelf_before shelf_now : Shelved)
+    (before now : Streams) : End → Type 0 where
+  unread : (line : Line) → ScrollRead file shelf_before shelf_now (Err line) → now ≡ before →
+      RunEnds file cycles shelf_before shelf_now before now (Stopped line)
+  read : (words : Vec ℕ Global) (end : End) → ScrollRead file shelf_before shelf_now (Ok words) →
+      WordsEnd words.items cycles before now end →
       RunEnds file cycles shelf_before shelf_now before now end

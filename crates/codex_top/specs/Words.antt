@@ -10,7 +10,8 @@ pub data Job : Type 0 where
 -- the lists of words that ask for something; any word may be a file's name
 pub data Asks : List (List ℕ) → Job → Type 0 where
   run : (file : List ℕ) → Asks (codes "run" ∷ file ∷ []) (runs file (2 ^ 62))
-  run_for : (file number : List ℕ) (n : ℕ) → number ≡ decimal n → n ≤ 2 ^ 62 → Asks (codes "run" ∷ file ∷ number ∷ []) (runs file n)
+  run_for : (file number : List ℕ) (n : ℕ) → number ≡ decimal n → n ≤ 2 ^ 62 →
+      Asks (codes "run" ∷ file ∷ number ∷ []) (runs file n)
   asm : (file out : List ℕ) → Asks (codes "asm" ∷ file ∷ out ∷ []) (assembles file out)
   dis : (file : List ℕ) → Asks (codes "dis" ∷ file ∷ []) (lists file)
 

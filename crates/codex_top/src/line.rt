@@ -65,7 +65,8 @@ pub enum Line {
 
 impl Refusal {
     fn put<E: Sink>(&self, err: &mut E) -> Result<(), Failed>
-        ensures appended { Appends (concat (refusal_pieces self.now)) (E.written err.old) (E.written err.new) result }
+        ensures appended { Appends (concat (refusal_pieces self.now))
+            (E.written err.old) (E.written err.new) result }
         ensures tells { KeepsTelling (E.written err.old) (E.written err.new) }
         ensures cause { HasCause (E.faults err.old) (E.faults err.new) result }
     {
@@ -181,7 +182,8 @@ impl Line {
 
 // writes the pieces, in order
 fn put_all<E: Sink>(err: &mut E, pieces: &[&[u8]]) -> Result<(), Failed>
-    ensures appended { Appends (flat_map (λ piece. piece.now) pieces.now) (E.written err.old) (E.written err.new) result }
+    ensures appended { Appends (flat_map (λ piece. piece.now) pieces.now)
+        (E.written err.old) (E.written err.new) result }
     ensures tells { KeepsTelling (E.written err.old) (E.written err.new) }
     ensures cause { HasCause (E.faults err.old) (E.faults err.new) result }
 {
@@ -196,7 +198,8 @@ fn put_all<E: Sink>(err: &mut E, pieces: &[&[u8]]) -> Result<(), Failed>
 
 // writes the text, a number and LF
 fn put_numbered<E: Sink>(err: &mut E, text: &[u8], number: usize) -> Result<(), Failed>
-    ensures appended { Appends (concat (text.now ∷ decimal number ∷ codes "\n" ∷ [])) (E.written err.old) (E.written err.new) result }
+    ensures appended { Appends (concat (text.now ∷ decimal number ∷ codes "\n" ∷ []))
+        (E.written err.old) (E.written err.new) result }
     ensures tells { KeepsTelling (E.written err.old) (E.written err.new) }
     ensures cause { HasCause (E.faults err.old) (E.faults err.new) result }
 {

@@ -246,7 +246,14 @@ fn command_lines(rt: HostRuntime) -> Result<(), Fail> {
     for row in &rows {
         check(&rt, row)?;
     }
-    Ok(())
+    let mut endless = words(
+        &["run", "f", "10"],
+        b"",
+        "budget 10 cycles\n",
+        Status::Budget,
+    );
+    endless.file = &[0xc0, 0, 0, 0];
+    check(&rt, &endless)
 }
 
 // a run of which the first call of one object fails
