@@ -9,6 +9,7 @@ pub mod FrameAt
 pub mod Heads
 pub mod InOrder
 pub mod LiveCorners
+pub mod OneReading
 pub mod Parts
 pub mod ReadingOrder
 pub mod Shown
