@@ -31,14 +31,14 @@ rest_before (Ok turn) (Some (Input c)) None registers left = slice_index registe
 rest_before (Ok turn) (Some (Input c)) (Some told) registers left = told
 rest_before result op before registers left = left
 
--- the same of a call that asks neither the source nor the sink
+-- an answer and the machine that it leaves, of a call that asks neither the source nor the sink
 abbrev pub MeetsAlone : Op → Core → (rest out : List ℕ) → Next → Result (Unit {0}) Stop → Type 0
 MeetsAlone op new rest out (Goes t) (Ok done) = t ≡ state_of new rest out
 MeetsAlone op new rest out (Goes t) (Err stop) = MayFail new.registers (Some op) stop
 MeetsAlone op new rest out (Stops fault) (Ok done) = ⊥
 MeetsAlone op new rest out (Stops fault) (Err stop) = stop ≡ stop_of fault
 
--- what one operator's call that asks neither of them leaves
+-- what the call for one operator that asks neither of them answers and leaves
 pub record Comes (op : Op) (old new : Core) (result : Result (Unit {0}) Stop) : Type 0 where
   pub row : (rest out : List ℕ) →
       MeetsAlone op new rest out (row op old.limits (next_identifier old.identifiers) (moved (state_of old rest out))) result
