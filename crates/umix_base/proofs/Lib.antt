@@ -1,1 +1,2 @@
 mod FilesLemmas
+pub mod TextLemmas

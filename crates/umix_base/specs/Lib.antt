@@ -6,3 +6,4 @@ pub mod SourceInMemory
 pub mod SinkInMemory
 pub mod ShelfInMemory
 pub mod ShelfView
+pub mod TextInMemory

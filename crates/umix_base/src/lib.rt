@@ -14,6 +14,8 @@ mod real_shelf;
 mod shelf;
 mod sink;
 mod source;
+mod sure_source;
+mod text_sink;
 
 pub use limits::Limits;
 pub use mem_shelf::{MemShelf, ShelfFail};
@@ -27,6 +29,8 @@ pub use real_shelf::RealShelf;
 pub use shelf::{Shelf, ShelfFault};
 pub use sink::Sink;
 pub use source::Source;
+pub use sure_source::SureSource;
+pub use text_sink::TextSink;
 
 /// The outside failed.
 #[derive(Clone, Copy, PartialEq, Eq, Debug, Drop)]

@@ -1,5 +1,5 @@
 /// A place in a text, its row and its column counted from 1.
-#[derive(Clone, Copy, PartialEq, Eq, PartialOrd, Ord, Debug)]
+#[derive(Clone, Copy, PartialEq, Eq, Debug)]
 pub struct Place {
     /// The row.
     pub row: u32,

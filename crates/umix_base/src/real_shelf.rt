@@ -1,4 +1,4 @@
-ghost use Rattle.std.specs.Prelude.{None};
+ghost use Rattle.std.specs.Prelude.{◌≤◌, None, length, IfOk};
 
 use crate::{Shelf, ShelfFault};
 use std::alloc::Global;
@@ -28,12 +28,24 @@ impl<'a, R: Files> RealShelf<'a, R> {
     }
 }
 
-fn read_file<R: Files>(files: &R, alloc: Global, name: &str, max: usize) -> io::Result<Vec<u8>> {
+fn read_file<R: Files>(files: &R, alloc: Global, name: &str, max: usize) -> io::Result<Vec<u8>>
+    ensures { IfOk result (λ bytes. length bytes.items ≤ max) }
+{
     let mut bytes = Vec::new(alloc);
     File::open(files, name)?
         .take(max as u64)
         .read_to_end(&mut bytes)?;
+    bytes.truncate(max);
     Ok(bytes)
+}
+
+// want of memory is no fault of the system
+fn shelf_fault(error: &io::Error) -> ShelfFault {
+    if error.kind() == ErrorKind::OutOfMemory {
+        ShelfFault::Memory
+    } else {
+        ShelfFault::Failed
+    }
 }
 
 fn write_file<R: Files>(files: &R, name: &str, bytes: &[u8]) -> io::Result<()> {
@@ -50,14 +62,15 @@ impl<'a, R: Files> Shelf for RealShelf<'a, R> {
     ghost write_faults = { λ shelf. shelf.write_faults };
 
     fn read(&mut self, alloc: Global, name: &str, max: usize) -> Result<Vec<u8>, ShelfFault> {
-        match read_file(self.files, alloc, name, max) {
-            Ok(bytes) => Ok(bytes),
-            Err(error) if error.kind() == ErrorKind::OutOfMemory => Err(ShelfFault::Memory),
-            Err(_) => {
-                self.read_faults = self.read_faults.saturating_add(1);
-                Err(ShelfFault::Failed)
-            }
+        let error = match read_file(self.files, alloc, name, max) {
+            Ok(bytes) => return Ok(bytes),
+            Err(error) => error,
+        };
+        let fault = shelf_fault(&error);
+        if fault == ShelfFault::Failed {
+            self.read_faults = self.read_faults.saturating_add(1);
         }
+        Err(fault)
     }
 
     fn write(&mut self, _alloc: Global, name: &str, bytes: &[u8]) -> Result<(), ShelfFault> {
@@ -71,8 +84,9 @@ impl<'a, R: Files> Shelf for RealShelf<'a, R> {
 
 #[cfg(test)]
 mod tests {
-    use super::RealShelf;
+    use super::{RealShelf, shelf_fault};
     use crate::{Shelf, ShelfFault};
+    use std::io::ErrorKind;
 
     #[test]
     fn keeps_files(rt: HostRuntime) {
@@ -87,5 +101,13 @@ mod tests {
         assert!(rt; matches!(missing, Err(ShelfFault::Failed)));
         assert_eq!(rt; shelf.write(alloc, "none/x", b"a"), Err(ShelfFault::Failed));
         assert_eq!(rt; (shelf.read_faults, shelf.write_faults), (1, 1));
+    }
+
+    #[test]
+    fn tells_want_of_memory(rt: HostRuntime) {
+        let wants = shelf_fault(&ErrorKind::OutOfMemory.into());
+        assert_eq!(rt; wants, ShelfFault::Memory);
+        let missing = shelf_fault(&ErrorKind::NotFound.into());
+        assert_eq!(rt; missing, ShelfFault::Failed);
     }
 }

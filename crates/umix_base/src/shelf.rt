@@ -1,4 +1,4 @@
-ghost use Rattle.std.specs.Prelude.{◌≡◌, List, ℕ, Option, IsErrOf};
+ghost use Rattle.std.specs.Prelude.{◌≡◌, ◌≤◌, List, ℕ, Option, length, IfOk, IsErrOf};
 ghost use Rattle.umix_base.specs.Files.{Files, ReadsFile, WritesFile, HasReadCause};
 ghost use Rattle.umix_base.specs.Causes.{HasCauseIf, KeepsTelling};
 
@@ -28,6 +28,7 @@ pub trait Shelf {
     /// A shelf that tells its files may answer `Failed` for one that isn't there without counting it.
     fn read(&mut self, alloc: Global, name: &str, max: usize) -> Result<Vec<u8>, ShelfFault>
         ensures bytes { ReadsFile (files self.old) name.now max result }
+        ensures short { IfOk result (λ bytes. length bytes.items ≤ max) }
         ensures files { files self.new ≡ files self.old }
         ensures cause { HasReadCause (files self.old) name.now (read_faults self.old) (read_faults self.new) result }
         ensures writes { write_faults self.new ≡ write_faults self.old };
