@@ -28,7 +28,7 @@ is_false Less h = refl
 is_false Equal h = absurd (h refl)
 is_false Greater h = refl
 
-apart : (q k : ℕ) → q ≢ k → eq_by_cmp nat_cmp q k ≡ false
+pub apart : (q k : ℕ) → q ≢ k → eq_by_cmp nat_cmp q k ≡ false
 apart q k ne = is_false (nat_cmp q k) (λ e. ne (map.nat_cmp-IsAntisymmetric q k e))
 
 pub get-remove_same : (m : Arrays) (k : ℕ) → map.get (map.remove m k) k ≡ None

@@ -10,7 +10,7 @@ use Rattle.std.proofs.lemmas.List.Elements.{All-push, All-pop, All-contains, Con
 use Rattle.std.proofs.lemmas.Map.Keys.{apart_from_distinct, IsDistinct-from_apart}
 use Rattle.umix_base.specs.declared.limits.Limits.{Limits}
 use Rattle.um_word.specs.State.{Arrays, live_arrays, live_words}
-use Rattle.um_word.specs.Rule.{Identifiers, IsOrderly, none_made, next_identifier, taken, returned}
+use Rattle.um_word.specs.Rule.{Identifiers, IsOrderly, none_made, next_identifier, taken, handed_back}
 use Rattle.um_word.proofs.Arrays.{get-insert_same, get-insert_other, len-insert_new, len-insert_old}
 use Rattle.um_word.proofs.Live.{get-remove_same, get-remove_other, live_words-empty, live_words-insert_new, live_words-insert_old, live_words-remove, len-remove_there, len_positive}
 
@@ -221,7 +221,7 @@ once_more ids id once not_in = IsDistinct-from_apart nat_eq (ids ++ id ∷ []) (
 
 -- an identifier is given back
 pub given_back : (L : Limits) (i : Identifiers) (arrays : Arrays) (id : ℕ) (ws : List ℕ) → IsOrderly L i arrays →
-    1 ≤ id → map.get arrays id ≡ Some ws → IsOrderly L (returned i id) (map.remove arrays id)
+    1 ≤ id → map.get arrays id ≡ Some ws → IsOrderly L (handed_back i id) (map.remove arrays id)
 given_back L i arrays id ws o positive e = record {
   active = λ q. (before q, after q);
   abandoned = All-push (λ id. (1 ≤ id) × (id ≤ i.made)) i.abandoned id o.abandoned (positive, made.0);

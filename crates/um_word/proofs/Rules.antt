@@ -9,23 +9,23 @@ use Rattle.um_word.specs.declared.op.Op.{Op}
 use Rattle.um_word.specs.declared.op.Op.TheVariants.{Move, Index, Amend, Add, Mul, Div, Nand, Halt, Alloc, Abandon, Out, Input, Load, Set}
 use Rattle.um_word.specs.Operators.{decode_word}
 use Rattle.um_word.specs.State.{State, Arrays, array_at, live_arrays, live_words, reg, with_reg, with_array, platter}
-use Rattle.um_word.specs.Table.{Fault, FingerOutside, BadOperator, IndexInactive, IndexOutside, AmendInactive, AmendOutside, AbandonInactive, LoadInactive, DivideByZero, AbandonZero, OutputTooLarge, ArraysFull, WordsFull, Next, Goes, Stops, with_some, within, with_input, row, moved, cycle, op_of, op_under, quotient, arrays_after_allocation, words_after_allocation, words_after_load}
-use Rattle.um_word.specs.Run.{Stands, after, run, is_allocation, first_of, rest_of, ids_left, IsLegal, OnGoes, TakesLegal, AreLegal}
-use Rattle.um_word.specs.Rule.{Identifiers, IsOrderly, next_identifier, taken, returned, left_by, identifiers_left, ruled, handed_by, handed_out, SameStanding, RuleIsLegal, RulesAreLegal}
+use Rattle.um_word.specs.Table.{Fault, FingerOutside, BadOperator, IndexInactive, IndexOutside, AmendInactive, AmendOutside, AbandonInactive, LoadInactive, DivideByZero, AbandonZero, OutputTooLarge, ArraysFull, WordsFull, Next, Goes, Stops, with_some, within, with_byte, row, moved, cycle, op_of, op_under, quotient, arrays_after_allocation, words_after_allocation, words_after_load}
+use Rattle.um_word.specs.Run.{Stands, run_after, run, is_allocation, first_of, rest_of, ids_left, IsLegal, OnGoes, TakesLegal, AreLegal}
+use Rattle.um_word.specs.Rule.{Identifiers, IsOrderly, next_identifier, taken, handed_back, left_by, identifiers_left, ruled, handed_by, handed_out, SameStanding, RuleIsLegal, RulesAreLegal}
 use Rattle.um_word.proofs.Live.{length_within_live}
 use Rattle.um_word.proofs.Orderly.{replaced, given_back, takes, zero_there}
 
 -- what holds of the next state, through the forms in which the rows are written
-on_some : {A : Type 0} (o : Option A) (fault : Fault) (go : A → Next) (P : State → Type 0) →
+pub on_some : {A : Type 0} (o : Option A) (fault : Fault) (go : A → Next) (P : State → Type 0) →
     ((x : A) → o ≡ Some x → OnGoes (go x) P) → OnGoes (with_some o fault go) P
 on_some None fault go P h = tt
 on_some (Some x) fault go P h = h x refl
 
-on_if : (b : Bool) (x y : Next) (P : State → Type 0) → (b ≡ true → OnGoes x P) → (b ≡ false → OnGoes y P) → OnGoes (if b then x else y) P
+pub on_if : (b : Bool) (x y : Next) (P : State → Type 0) → (b ≡ true → OnGoes x P) → (b ≡ false → OnGoes y P) → OnGoes (if b then x else y) P
 on_if true x y P h k = h refl
 on_if false x y P h k = k refl
 
-on_within : (limit count : ℕ) (fault : ℕ → Fault) (next : Next) (P : State → Type 0) → (count ≤ limit → OnGoes next P) → OnGoes (within limit count fault next) P
+pub on_within : (limit count : ℕ) (fault : ℕ → Fault) (next : Next) (P : State → Type 0) → (count ≤ limit → OnGoes next P) → OnGoes (within limit count fault next) P
 on_within limit count fault next P h =
     on_if (nat_le count limit) next (Stops (fault count)) P (λ e. h (leb-true count limit e)) (λ e. tt)
 
@@ -33,7 +33,7 @@ pick : (b : Bool) (s t : State) (P : Arrays → Type 0) → P s.arrays → P t.a
 pick true s t P h k = h
 pick false s t P h k = k
 
-same_input : (c : ℕ) (bytes : List ℕ) (s : State) (P : Arrays → Type 0) → P s.arrays → P (with_input c bytes s).arrays
+same_input : (c : ℕ) (bytes : List ℕ) (s : State) (P : Arrays → Type 0) → P s.arrays → P (with_byte c bytes s).arrays
 same_input c [] s P h = h
 same_input c (byte ∷ rest) s P h = h
 
@@ -81,7 +81,7 @@ module _ (L : Limits) where
       let most : live_words s.arrays + length (replicate (reg s c) 0) ≤ L.words = omega (arith, n, fits) in
       (takes L i s.arrays o).kept (replicate (reg s c) 0) room most)
   row_orderly (Abandon c) i s o =
-      let P : State → Type 0 = λ t. IsOrderly L (returned i (reg s c)) t.arrays in
+      let P : State → Type 0 = λ t. IsOrderly L (handed_back i (reg s c)) t.arrays in
       let gone : Next = Goes (record (moved s) { arrays = map.remove s.arrays (reg s c) }) in
       let found : Next = with_some (map.get s.arrays (reg s c)) AbandonInactive (λ _. gone) in
       on_if (reg s c == 0) (Stops AbandonZero) found P (λ e. tt) (λ ne.
@@ -158,6 +158,12 @@ module _ (L : Limits) where
   stops_too (Some (Alloc b c)) fault id k s why e = alloc_stops b c id k (moved s) why e
   stops_too (Some _) fault id k s why e = e
 
+  -- the identifier that is offered has no part in a refusal
+  pub refusals_agree : (s : State) (id k : ℕ) (fault : Fault) → cycle s L id ≡ Stops fault → cycle s L k ≡ Stops fault
+  refusals_agree s id k fault e =
+      let r = reads s in
+      r.is k ∙ stops_too (op_under s) r.fault id k s fault (sym (r.is id) ∙ e)
+
   step_orderly : (op : Option Op) (fault : Fault) (i : Identifiers) (s : State) → IsOrderly L i s.arrays →
       OnGoes (cycle_by op fault (next_identifier i) s) (λ t. IsOrderly L (left_by op s i) t.arrays)
   step_orderly None fault i s o = tt
@@ -178,19 +184,19 @@ module _ (L : Limits) where
   fine_halted n i s ids e = record {
     legal = λ running. absurd (true≢false (sym e ∙ running));
     same = subst (λ h. SameStanding
-        (if h then Stands s i else after (cycle s L (next_identifier i)) s i (ruled L n (identifiers_left s i)))
-        (if h then Stands s ids else after (cycle s L (first_of ids)) s ids (run L n (ids_left s ids)))) (sym e) refl;
+        (if h then Stands s i else run_after (cycle s L (next_identifier i)) s i (ruled L n (identifiers_left s i)))
+        (if h then Stands s ids else run_after (cycle s L (first_of ids)) s ids (run L n (ids_left s ids)))) (sym e) refl;
   }
 
   fine_running : (n : ℕ) (i : Identifiers) (s : State) (ids : List ℕ) → s.halted ≡ false →
       OnGoes (cycle s L (first_of ids)) (λ t. TakesLegal ids s × AreLegal L n (ids_left s ids) t) →
-      SameStanding (after (cycle s L (next_identifier i)) s i (ruled L n (identifiers_left s i))) (after (cycle s L (first_of ids)) s ids (run L n (ids_left s ids))) →
+      SameStanding (run_after (cycle s L (next_identifier i)) s i (ruled L n (identifiers_left s i))) (run_after (cycle s L (first_of ids)) s ids (run L n (ids_left s ids))) →
       Fine n i s ids
   fine_running n i s ids e legal same = record {
     legal = λ _. legal;
     same = subst (λ h. SameStanding
-        (if h then Stands s i else after (cycle s L (next_identifier i)) s i (ruled L n (identifiers_left s i)))
-        (if h then Stands s ids else after (cycle s L (first_of ids)) s ids (run L n (ids_left s ids)))) (sym e) same;
+        (if h then Stands s i else run_after (cycle s L (next_identifier i)) s i (ruled L n (identifiers_left s i)))
+        (if h then Stands s ids else run_after (cycle s L (first_of ids)) s ids (run L n (ids_left s ids)))) (sym e) same;
   }
 
   fine_goes : (n : ℕ) (i : Identifiers) (s : State) (ids : List ℕ) (t : State) → s.halted ≡ false →
@@ -199,7 +205,7 @@ module _ (L : Limits) where
   fine_goes n i s ids t e by_rule given left takes_legal rest =
       let j = identifiers_left s i in
       let P : State → Type 0 = λ t. TakesLegal ids s × AreLegal L n (ids_left s ids) t in
-      let Q : Next → Next → Type 0 = λ r q. SameStanding (after r s i (ruled L n j)) (after q s ids (run L n (ids_left s ids))) in
+      let Q : Next → Next → Type 0 = λ r q. SameStanding (run_after r s i (ruled L n j)) (run_after q s ids (run L n (ids_left s ids))) in
       let legal : P t = (takes_legal, subst (λ xs. AreLegal L n xs t) (sym left) rest.legal) in
       let same : Q (Goes t) (Goes t) = subst (λ xs. SameStanding (ruled L n j t) (run L n xs t)) (sym left) rest.same in
       fine_running n i s ids e (subst (λ r. OnGoes r P) (sym given) legal)
@@ -210,7 +216,7 @@ module _ (L : Limits) where
   fine_stops n i s ids fault e by_rule given =
       let j = identifiers_left s i in
       let P : State → Type 0 = λ t. TakesLegal ids s × AreLegal L n (ids_left s ids) t in
-      let Q : Next → Next → Type 0 = λ r q. SameStanding (after r s i (ruled L n j)) (after q s ids (run L n (ids_left s ids))) in
+      let Q : Next → Next → Type 0 = λ r q. SameStanding (run_after r s i (ruled L n j)) (run_after q s ids (run L n (ids_left s ids))) in
       let same : Q (Stops fault) (Stops fault) = (refl, refl) in
       fine_running n i s ids e (subst (λ r. OnGoes r P) (sym given) tt)
       (subst (λ r. Q r (cycle s L (first_of ids))) (sym by_rule) (subst (λ q. Q (Stops fault) q) (sym given) same))
@@ -232,11 +238,6 @@ module _ (L : Limits) where
         let P : State → Type 0 = λ t. live_arrays s.arrays + 1 ≤ L.arrays in
         subst (λ r. OnGoes r P) (sym (r.is (next_identifier i)) ∙ e) (step_room (op_under s) r.fault i s a)
 
-    stops_given : (id : ℕ) (why : Fault) → cycle s L (next_identifier i) ≡ Stops why → cycle s L id ≡ Stops why
-    stops_given id why e =
-        let r = reads s in
-        r.is id ∙ stops_too (op_under s) r.fault (next_identifier i) id s why (sym (r.is (next_identifier i)) ∙ e)
-
     goes_given : (id : ℕ) (t : State) → is_allocation (op_under s) ≡ false → cycle s L (next_identifier i) ≡ Goes t → cycle s L id ≡ Goes t
     goes_given id t a e =
         let r = reads s in
@@ -255,13 +256,13 @@ module _ (L : Limits) where
         (ap (λ b. if b then more t else (next_identifier i ∷ more t)) a)
         (λ _. (omega arith, legal_next (room_after t a r)))
         (again (identifiers_left s i) t (orderly_after t r))
-    by_case true (Stops why) e a r = fine_stops n i s [] why e r (stops_given 0 why r)
+    by_case true (Stops why) e a r = fine_stops n i s [] why e r (refusals_agree s (next_identifier i) 0 why r)
     by_case false (Goes t) e a r =
         fine_goes n i s (more t) t e r (goes_given (first_of (more t)) t a r)
         (ap (λ b. if b then rest_of (more t) else more t) a)
         (λ h. absurd (true≢false (sym h ∙ a)))
         (again (identifiers_left s i) t (orderly_after t r))
-    by_case false (Stops why) e a r = fine_stops n i s [] why e r (stops_given 0 why r)
+    by_case false (Stops why) e a r = fine_stops n i s [] why e r (refusals_agree s (next_identifier i) 0 why r)
 
     by_halt : (h : Bool) → s.halted ≡ h →
         Fine n i s (if h then [] else handed_by (if is_allocation (op_under s) then Some (next_identifier i) else None) (cycle s L (next_identifier i)) more)

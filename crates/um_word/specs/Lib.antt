@@ -4,3 +4,7 @@ pub mod Table
 pub mod Run
 pub mod Rule
 pub mod Scroll
+pub mod Free
+pub mod Loads
+pub mod EveryRun
+pub mod Leads

@@ -31,12 +31,12 @@ abbrev pub taken : Identifiers → Identifiers
 taken i = taken_from i.abandoned i.made
 
 -- the identifiers after this one was abandoned
-abbrev pub returned : Identifiers → ℕ → Identifiers
-returned i id = record i { abandoned = i.abandoned ++ id ∷ [] }
+abbrev pub handed_back : Identifiers → ℕ → Identifiers
+handed_back i id = record i { abandoned = i.abandoned ++ id ∷ [] }
 
 abbrev pub left_by : Option Op → State → Identifiers → Identifiers
 left_by (Some (Alloc b c)) s i = taken i
-left_by (Some (Abandon c)) s i = returned i (reg s c)
+left_by (Some (Abandon c)) s i = handed_back i (reg s c)
 left_by _ s i = i
 
 -- the identifiers after a cycle from s: an Allocation takes one, and an Abandonment returns one

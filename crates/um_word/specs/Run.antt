@@ -17,15 +17,15 @@ pub data Standing (I : Type 0) : Type 0 where
 abbrev pub next_number : State → ℕ
 next_number s = s.cycles + 1
 
-abbrev pub after : {I : Type 0} → Next → State → I → (State → Standing I) → Standing I
-after (Goes t) s i go = go t
-after (Stops fault) s i go = Failed s i fault
+abbrev pub run_after : {I : Type 0} → Next → State → I → (State → Standing I) → Standing I
+run_after (Goes t) s i go = go t
+run_after (Stops fault) s i go = Failed s i fault
 
 -- n cycles, of which each is offered the next identifier; a halted state stays as it is
 abbrev pub run_by : {I : Type 0} → (I → ℕ) → (State → I → I) → Limits → ℕ → I → State → Standing I
 run_by offer left L zero i s = Stands s i
 run_by offer left L (suc n) i s =
-    if s.halted then Stands s i else after (cycle s L (offer i)) s i (run_by offer left L n (left s i))
+    if s.halted then Stands s i else run_after (cycle s L (offer i)) s i (run_by offer left L n (left s i))
 
 -- the operator is an Allocation
 abbrev pub is_allocation : Option Op → Bool

@@ -47,9 +47,9 @@ abbrev pub words_after_load : State → List ℕ → ℕ
 words_after_load s words = live_words s.arrays - length (array_at s.arrays 0) + length words
 
 -- the first byte of the input, or 2 ^ 32 - 1 at its end
-abbrev pub with_input : ℕ → List ℕ → State → State
-with_input c [] s = with_reg s c (2 ^ 32 - 1)
-with_input c (byte ∷ rest) s = with_reg (record s { rest = rest }) c byte
+abbrev pub with_byte : ℕ → List ℕ → State → State
+with_byte c [] s = with_reg s c (2 ^ 32 - 1)
+with_byte c (byte ∷ rest) s = with_reg (record s { rest = rest }) c byte
 
 -- The rows, each with its faults in their order. The finger has moved on and the cycle is counted in s;
 -- an Allocation takes the identifier id.
@@ -79,7 +79,7 @@ row (Abandon c) L id s =
     Goes (record s { arrays = map.remove s.arrays (reg s c) }))
 row (Out c) L id s =
     if nat_lt (reg s c) 256 then Goes (record s { out = s.out ++ reg s c ∷ [] }) else Stops OutputTooLarge
-row (Input c) L id s = Goes (with_input c s.rest s)
+row (Input c) L id s = Goes (with_byte c s.rest s)
 row (Load b c) L id s =
     if reg s b == 0 then Goes (record s { finger = reg s c }) else
     with_some (map.get s.arrays (reg s b)) LoadInactive (λ words.

@@ -1,6 +1,6 @@
 //! One operator of the machine, from a platter and to a platter.
 
-ghost use Rattle.std.specs.Prelude.{◌≡◌, ◌<◌, IfSome, Some};
+ghost use Rattle.std.specs.Prelude.{◌≡◌, ◌/◌, ◌%◌, ◌^◌, ◌<◌, IfSome, Some};
 ghost use Rattle.um_word.specs.Operators.{decode_word, encode_op, platter_of, IsEncodable};
 
 /// An operator with its registers, in the order A, B, C of those that it uses. Registers are below 8.
@@ -38,30 +38,52 @@ pub enum Op {
 }
 
 /// The operator of a platter, or `None` exactly where its number is 14 or 15. Takes no memory.
+#[inline(always)]
 pub fn decode(word: u32) -> Option<Op>
     ensures operator { result ≡ decode_word word }
     ensures registers { IfSome result IsEncodable }
 {
-    let a = ((word >> 6) & 7) as u8;
-    let b = ((word >> 3) & 7) as u8;
-    let c = (word & 7) as u8;
     match word >> 28 {
-        0 => Some(Op::Move(a, b, c)),
-        1 => Some(Op::Index(a, b, c)),
-        2 => Some(Op::Amend(a, b, c)),
-        3 => Some(Op::Add(a, b, c)),
-        4 => Some(Op::Mul(a, b, c)),
-        5 => Some(Op::Div(a, b, c)),
-        6 => Some(Op::Nand(a, b, c)),
+        0 => Some(Op::Move(a(word), b(word), c(word))),
+        1 => Some(Op::Index(a(word), b(word), c(word))),
+        2 => Some(Op::Amend(a(word), b(word), c(word))),
+        3 => Some(Op::Add(a(word), b(word), c(word))),
+        4 => Some(Op::Mul(a(word), b(word), c(word))),
+        5 => Some(Op::Div(a(word), b(word), c(word))),
+        6 => Some(Op::Nand(a(word), b(word), c(word))),
         7 => Some(Op::Halt),
-        8 => Some(Op::Alloc(b, c)),
-        9 => Some(Op::Abandon(c)),
-        10 => Some(Op::Out(c)),
-        11 => Some(Op::Input(c)),
-        12 => Some(Op::Load(b, c)),
+        8 => Some(Op::Alloc(b(word), c(word))),
+        9 => Some(Op::Abandon(c(word))),
+        10 => Some(Op::Out(c(word))),
+        11 => Some(Op::Input(c(word))),
+        12 => Some(Op::Load(b(word), c(word))),
         13 => Some(Op::Set(((word >> 25) & 7) as u8, word & 0x1ff_ffff)),
         _ => None,
     }
+}
+
+// the number of register A
+fn a(word: u32) -> u8
+    ensures value { result ≡ word / 2 ^ 6 % 8 }
+    ensures below { result < 8 }
+{
+    ((word >> 6) & 7) as u8
+}
+
+// the number of register B
+fn b(word: u32) -> u8
+    ensures value { result ≡ word / 2 ^ 3 % 8 }
+    ensures below { result < 8 }
+{
+    ((word >> 3) & 7) as u8
+}
+
+// the number of register C
+fn c(word: u32) -> u8
+    ensures value { result ≡ word % 8 }
+    ensures below { result < 8 }
+{
+    (word & 7) as u8
 }
 
 /// The platter of an operator, in which unused bits are 0: decoding it gives the operator back.

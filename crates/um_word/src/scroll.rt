@@ -2,17 +2,17 @@
 
 ghost use Rattle.std.specs.Prelude.{◌≡◌, ℕ, ◌+◌, ◌*◌, ◌%◌, ◌^◌, ◌≤◌, ◌<◌, length, slice_index, IfOk, OnOk, IfErr};
 ghost use Rattle.std.specs.Int.{w32, to_be_bytes};
-ghost use Rattle.um_word.specs.Scroll.{scroll, IsScrollFault};
+ghost use Rattle.um_word.specs.Scroll.{scroll, most_scroll_bytes, IsScrollFault};
 
 use std::alloc::Global;
 use thiserror::Error;
 use umix_base::Memory;
 
-/// The most bytes that a scroll has.
-pub const MOST_SCROLL_BYTES: usize = 67_108_864;
-
-/// The most words that a scroll has.
+/// The most words that a scroll has. See "Scrolls" in docs/MACHINE.md.
 pub const MOST_SCROLL_WORDS: usize = 16_777_216;
+
+/// The most bytes that a scroll has.
+pub const MOST_SCROLL_BYTES: usize = 4 * MOST_SCROLL_WORDS;
 
 /// Why bytes are no scroll. The number is the count of bytes.
 #[derive(Debug, Drop, Error)]
@@ -32,7 +32,7 @@ pub enum ScrollFault {
 /// over 67,108,864 bytes; else `Ragged` exactly where their count is no multiple of 4.
 pub fn words_of(alloc: Global, bytes: &[u8]) -> Result<Vec<u32>, ScrollFault>
     ensures words { IfOk result (λ words. scroll words.items ≡ bytes.now) }
-    ensures fits { OnOk result (length bytes.now ≤ 67_108_864) }
+    ensures fits { OnOk result (length bytes.now ≤ most_scroll_bytes) }
     ensures platters { IfOk result (λ words. (at : ℕ) → slice_index words.items at < 2 ^ 32) }
     ensures fault { IfErr result (λ fault. IsScrollFault bytes.now fault) }
 {
@@ -85,9 +85,16 @@ pub fn bytes_of(alloc: Global, words: &[u32]) -> Result<Vec<u8>, Memory>
 {
     let mut bytes = Vec::with_capacity(alloc, 4 * words.len())?;
     for word in words {
-        bytes.extend_from_slice(&word.to_be_bytes())?;
+        bytes.extend_from_slice(&four_of(*word))?;
     }
     Ok(bytes)
+}
+
+// the four bytes of a word, the most significant first
+fn four_of(word: u32) -> [u8; 4]
+    ensures { result ≡ to_be_bytes w32 word }
+{
+    word.to_be_bytes()
 }
 
 #[cfg(test)]
@@ -102,12 +109,15 @@ mod tests {
         assert_eq!(rt; words.as_slice(), [0xd000_0041].as_slice());
         let again = bytes_of(rt.alloc(), &words)?;
         assert_eq!(rt; again.as_slice(), bytes.as_slice());
-        match words_of(rt.alloc(), &[0x70, 0, 0, 0, 0]) {
-            Err(fault) => {
-                assert!(rt; matches!(&fault, ScrollFault::Ragged(5)));
-                assert_eq!(rt; format!(in rt.alloc(); "{fault}")?.as_str(), "Ragged");
-            }
-            Ok(_) => assert!(rt; false),
+        let ragged = words_of(rt.alloc(), &[0x70, 0, 0, 0, 0]);
+        assert!(rt; matches!(ragged, Err(ScrollFault::Ragged(5))));
+        let names = [
+            (ScrollFault::TooLong(67_108_868), "TooLong"),
+            (ScrollFault::Ragged(5), "Ragged"),
+            (ScrollFault::Memory, "Memory"),
+        ];
+        for (fault, name) in &names {
+            assert_eq!(rt; format!(in rt.alloc(); "{fault}")?.as_str(), *name);
         }
         Ok(())
     }
