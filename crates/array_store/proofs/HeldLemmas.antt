@@ -6,13 +6,12 @@ use Rattle.std.proofs.lemmas.Bool.{cases_eq, cases_lt}
 use Rattle.std.proofs.lemmas.Option.{get_or_from_slice_get}
 use Rattle.std.proofs.lemmas.List.{get_or-replicate, get_or_past, set_past, length-set, length-replicate}
 use Rattle.umix_base.specs.declared.limits.Limits.{Limits}
-use Rattle.array_store.specs.declared.store.TheConstants.{MOST_ARRAYS, MOST_WORDS}
 use Rattle.um_word.specs.State.{Arrays, array_at, live_words}
-use Rattle.um_word.specs.Rule.{IsOrderly, next_identifier, taken, returned}
+use Rattle.um_word.specs.Rule.{IsOrderly, next_identifier, taken, handed_back}
 use Rattle.um_word.proofs.Arrays.{get-insert_same, get-insert_other}
 use Rattle.um_word.proofs.Live.{get-remove_same, get-remove_other, length_within_live}
 use Rattle.um_word.proofs.Orderly.{replaced, given_back, takes, none_made_is_orderly}
-use Rattle.array_store.specs.Held.{Held, IsHeld, HasArray, HasWord, new_held}
+use Rattle.array_store.specs.StoreView.{most_live_arrays, most_live_words, StoreView, IsStore, HasArray, HasWord, new_held}
 use Rattle.array_store.specs.Refusals.{FitsAllocation, words_loaded}
 
 -- each word has 32 bits
@@ -76,8 +75,8 @@ still_there arrays k words zero = elim (cases_eq 0 k) as (λ _. map.get (map.ins
   | inr ne ↦ there_as _ (array_at arrays 0) (get-insert_other arrays k words 0 ne ∙ zero)
 ]
 
-held_from : (h : Held) → HasArray h 0 → IsOrderly h.limits h.identifiers h.arrays → h.limits.arrays ≤ MOST_ARRAYS →
-    h.limits.words ≤ MOST_WORDS → AllFit h.arrays → IsHeld h
+held_from : (h : StoreView) → HasArray h 0 → IsOrderly h.limits h.identifiers h.arrays → h.limits.arrays ≤ most_live_arrays →
+    h.limits.words ≤ most_live_words → AllFit h.arrays → IsStore h
 held_from h zero orderly arrays words fit = record {
   zero_there = zero;
   orderly = orderly;
@@ -87,35 +86,35 @@ held_from h zero orderly arrays words fit = record {
   platters = fit;
 }
 
-pub held-new : (zero : List ℕ) (limits : Limits) → limits.arrays ≤ MOST_ARRAYS → limits.words ≤ MOST_WORDS →
-    length zero ≤ limits.words → Fit zero → IsHeld (new_held zero limits)
+pub held-new : (zero : List ℕ) (limits : Limits) → limits.arrays ≤ most_live_arrays → limits.words ≤ most_live_words →
+    length zero ≤ limits.words → Fit zero → IsStore (new_held zero limits)
 held-new zero limits arrays words fits fit =
     held_from (new_held zero limits) (there_as _ zero (get-insert_same map.empty 0 zero)) (none_made_is_orderly limits zero fits) arrays words
     (fit-insert map.empty 0 zero (λ id. subst Fit (sym (ap (λ o. unwrap_or o []) (map.get-empty _ id))) fit_none) fit)
 
 -- an array gets other words
-held-put : (h : Held) (id : ℕ) (words : List ℕ) → IsHeld h → HasArray h id →
+held-put : (h : StoreView) (id : ℕ) (words : List ℕ) → IsStore h → HasArray h id →
     live_words h.arrays - length (array_at h.arrays id) + length words ≤ h.limits.words → Fit words →
-    IsHeld (record h { arrays = map.insert h.arrays id words })
+    IsStore (record h { arrays = map.insert h.arrays id words })
 held-put h id words held there fits fit =
     held_from (record h { arrays = map.insert h.arrays id words }) (still_there h.arrays id words held.zero_there)
     (replaced h.limits h.identifiers h.arrays id (array_at h.arrays id) words held.orderly there fits)
     held.arrays_limit held.words_limit (fit-insert h.arrays id words held.platters fit)
 
-pub held-amend : (h : Held) (id at word : ℕ) → IsHeld h → HasArray h id → word < 2 ^ 32 →
-    IsHeld (record h { arrays = map.insert h.arrays id (set (array_at h.arrays id) at word) })
+pub held-amend : (h : StoreView) (id at word : ℕ) → IsStore h → HasArray h id → word < 2 ^ 32 →
+    IsStore (record h { arrays = map.insert h.arrays id (set (array_at h.arrays id) at word) })
 held-amend h id at word held there small =
     held-put h id (set (array_at h.arrays id) at word) held there
     (let a = at_most_live h.arrays id in let b = held.orderly.words in let c = length-set (array_at h.arrays id) at word in
     omega (arith, a, b, c))
     (fit-set (array_at h.arrays id) at word (held.platters id) small)
 
-pub held-load : (h : Held) (id : ℕ) → IsHeld h → words_loaded h id ≤ h.limits.words →
-    IsHeld (record h { arrays = map.insert h.arrays 0 (array_at h.arrays id) })
+pub held-load : (h : StoreView) (id : ℕ) → IsStore h → words_loaded h id ≤ h.limits.words →
+    IsStore (record h { arrays = map.insert h.arrays 0 (array_at h.arrays id) })
 held-load h id held fits = held-put h 0 (array_at h.arrays id) held held.zero_there fits (held.platters id)
 
-pub held-allocate : (h : Held) (size : ℕ) → IsHeld h → FitsAllocation h size →
-    IsHeld (record h { arrays = map.insert h.arrays (next_identifier h.identifiers) (replicate size 0); identifiers = taken h.identifiers })
+pub held-allocate : (h : StoreView) (size : ℕ) → IsStore h → FitsAllocation h size →
+    IsStore (record h { arrays = map.insert h.arrays (next_identifier h.identifiers) (replicate size 0); identifiers = taken h.identifiers })
 held-allocate h size held fits =
     let id = next_identifier h.identifiers in
     let next = takes h.limits h.identifiers h.arrays held.orderly in
@@ -124,22 +123,22 @@ held-allocate h size held fits =
     (next.kept (replicate size 0) fits.0 (let l = length-replicate {A = ℕ} size 0 in let f = fits.1 in omega (arith, l, f)))
     held.arrays_limit held.words_limit (fit-insert h.arrays id (replicate size 0) held.platters (fit-replicate size))
 
-pub held-abandon : (h : Held) (id : ℕ) → IsHeld h → 1 ≤ id → HasArray h id →
-    IsHeld (record h { arrays = map.remove h.arrays id; identifiers = returned h.identifiers id })
+pub held-abandon : (h : StoreView) (id : ℕ) → IsStore h → 1 ≤ id → HasArray h id →
+    IsStore (record h { arrays = map.remove h.arrays id; identifiers = handed_back h.identifiers id })
 held-abandon h id held positive there =
     let ne : 0 ≢ id = λ e. omega (arith, e, positive) in
-    held_from (record h { arrays = map.remove h.arrays id; identifiers = returned h.identifiers id })
+    held_from (record h { arrays = map.remove h.arrays id; identifiers = handed_back h.identifiers id })
     (there_as _ (array_at h.arrays 0) (get-remove_other h.arrays id 0 ne ∙ held.zero_there))
     (given_back h.limits h.identifiers h.arrays id (array_at h.arrays id) held.orderly positive there)
     held.arrays_limit held.words_limit (fit-remove h.arrays id held.platters)
 
 -- a word that is there is the one at its offset
-pub word_there : (h : Held) (id at word : ℕ) → HasWord h id at word → HasWord h id at (slice_index (array_at h.arrays id) at)
+pub word_there : (h : StoreView) (id at word : ℕ) → HasWord h id at word → HasWord h id at (slice_index (array_at h.arrays id) at)
 word_there h id at word found =
     (found.0, found.1 ∙ ap Some (sym (get_or_from_slice_get (array_at h.arrays id) at word 0 found.1)))
 
 -- array 0 in its own place
-pub loaded_zero : (h : Held) (id : ℕ) → IsHeld h → id ≡ 0 → words_loaded h id ≤ h.limits.words
+pub loaded_zero : (h : StoreView) (id : ℕ) → IsStore h → id ≡ 0 → words_loaded h id ≤ h.limits.words
 loaded_zero h id held e =
     let same : length (array_at h.arrays id) ≡ length (array_at h.arrays 0) = ap (λ k. length (array_at h.arrays k)) e in
     let most = at_most_live h.arrays 0 in

@@ -7,8 +7,8 @@ use Rattle.std.proofs.lemmas.Bool.{cases_eq, cases_lt}
 use Rattle.std.proofs.lemmas.Option.{slice_get-get_or, slice_get_past}
 use Rattle.um_word.specs.State.{array_at}
 use Rattle.um_word.proofs.Arrays.{get-insert_same, get-insert_other}
-use Rattle.um_word.proofs.Live.{same_arrays, get-remove_same, get-remove_other}
-use Rattle.array_store.specs.Slots.{arrays_from, slot_arrays}
+use Rattle.um_word.proofs.Live.{same_arrays, get-remove_same, get-remove_other, insert_same, insert_again, insert_removed, remove_inserted, insert_swap, remove_insert_swap}
+use Rattle.array_store.specs.inner.Slots.{arrays_from, slot_arrays, arrays_of}
 
 abbrev pub words_of : Option (Vec ℕ) → Option (List ℕ)
 words_of None = None
@@ -125,9 +125,88 @@ pub array-slot_read : (slots : List (Option (Vec ℕ))) (k : ℕ) (slot : Option
 array-slot_read slots k slot words within is e =
     ap (λ o. unwrap_or o []) (get-slot_read slots k slot within is ∙ ap words_of e)
 
-pub slot_arrays-one : (words : Vec ℕ) → slot_arrays (Some words ∷ []) ≡ map.insert map.empty 0 words.items
+pub slot_arrays-one : slot_arrays (None ∷ []) ≡ map.empty
 unfolding slot_arrays
-slot_arrays-one words = refl
+slot_arrays-one = refl
+
+-- the words of array 0
+pub at_zero : (z : List ℕ) (n : ℕ) (slots : List (Option (Vec ℕ))) → map.get (arrays_of z n slots) 0 ≡ Some z
+at_zero z n slots = get-insert_same (map.insert (slot_arrays slots) n z) 0 z
+
+pub words_at_zero : (z : List ℕ) (n : ℕ) (slots : List (Option (Vec ℕ))) → array_at (arrays_of z n slots) 0 ≡ z
+words_at_zero z n slots = ap (λ o. unwrap_or o []) (at_zero z n slots)
+
+-- the words of the array that it names
+pub at_named : (z : List ℕ) (n : ℕ) (slots : List (Option (Vec ℕ))) → map.get (arrays_of z n slots) n ≡ Some z
+at_named z n slots = elim (cases_eq n 0) as (λ _. map.get (arrays_of z n slots) n ≡ Some z) [
+  | inl e ↦ ap (map.get (arrays_of z n slots)) e ∙ at_zero z n slots
+  | inr ne ↦ get-insert_other (map.insert (slot_arrays slots) n z) 0 z n ne ∙ get-insert_same (slot_arrays slots) n z
+]
+
+-- another array
+pub at_other : (z : List ℕ) (n : ℕ) (slots : List (Option (Vec ℕ))) (id : ℕ) → 1 ≤ id → id ≢ n → map.get (arrays_of z n slots) id ≡ map.get (slot_arrays slots) id
+at_other z n slots id positive ne =
+    get-insert_other (map.insert (slot_arrays slots) n z) 0 z id (λ e. omega (arith, e, positive)) ∙ get-insert_other (slot_arrays slots) n z id ne
+
+pub words_at_other : (z : List ℕ) (n : ℕ) (slots : List (Option (Vec ℕ))) (id : ℕ) → 1 ≤ id → id ≢ n → array_at (arrays_of z n slots) id ≡ array_at (slot_arrays slots) id
+words_at_other z n slots id positive ne = ap (λ o. unwrap_or o []) (at_other z n slots id positive ne)
+
+-- with no array named
+pub unnamed : (z : List ℕ) (slots : List (Option (Vec ℕ))) → arrays_of z 0 slots ≡ map.insert (slot_arrays slots) 0 z
+unnamed z slots = insert_again (slot_arrays slots) 0 z z
+
+-- array 0 gets other words of its own
+pub zero_put : (z words : List ℕ) (slots : List (Option (Vec ℕ))) → arrays_of words 0 slots ≡ map.insert (arrays_of z 0 slots) 0 words
+zero_put z words slots =
+    unnamed words slots ∙ sym (insert_again (slot_arrays slots) 0 z words) ∙ ap (λ arrays. map.insert arrays 0 words) (sym (unnamed z slots))
+
+-- another array gets other words
+pub other_put : (z words : List ℕ) (n : ℕ) (old new : List (Option (Vec ℕ))) (id : ℕ) → 1 ≤ id → id ≢ n →
+    slot_arrays new ≡ map.insert (slot_arrays old) id words → arrays_of z n new ≡ map.insert (arrays_of z n old) id words
+other_put z words n old new id positive ne e =
+    ap (λ arrays. map.insert (map.insert arrays n z) 0 z) e
+    ∙ ap (λ arrays. map.insert arrays 0 z) (insert_swap (slot_arrays old) id n words z ne)
+    ∙ insert_swap (map.insert (slot_arrays old) n z) id 0 words z (λ same. omega (arith, same, positive))
+
+-- another array is removed
+pub other_removed : (z : List ℕ) (n : ℕ) (old new : List (Option (Vec ℕ))) (id : ℕ) → 1 ≤ id → id ≢ n →
+    slot_arrays new ≡ map.remove (slot_arrays old) id → arrays_of z n new ≡ map.remove (arrays_of z n old) id
+other_removed z n old new id positive ne e =
+    ap (λ arrays. map.insert (map.insert arrays n z) 0 z) e
+    ∙ ap (λ arrays. map.insert arrays 0 z) (sym (remove_insert_swap (slot_arrays old) n id z (λ same. ne (sym same))))
+    ∙ sym (remove_insert_swap (map.insert (slot_arrays old) n z) 0 id z (λ same. omega (arith, same, positive)))
+
+-- the array that array 0 names is removed, and array 0 keeps the words
+pub named_removed : (z : List ℕ) (n : ℕ) (slots : List (Option (Vec ℕ))) → 1 ≤ n → map.get (slot_arrays slots) n ≡ None →
+    arrays_of z 0 slots ≡ map.remove (arrays_of z n slots) n
+named_removed z n slots positive empty =
+    unnamed z slots
+    ∙ ap (λ arrays. map.insert arrays 0 z) (sym (remove_inserted (slot_arrays slots) n z empty))
+    ∙ sym (remove_insert_swap (map.insert (slot_arrays slots) n z) 0 n z (λ same. omega (arith, same, positive)))
+
+-- array 0 has words of its own, and the array that it named has them in its slot
+pub parted : (z words : List ℕ) (n : ℕ) (old new : List (Option (Vec ℕ))) → words ≡ z →
+    slot_arrays new ≡ map.insert (slot_arrays old) n z → arrays_of words 0 new ≡ arrays_of z n old
+parted z words n old new same e =
+    ap (λ ws. arrays_of ws 0 new) same ∙ unnamed z new ∙ ap (λ arrays. map.insert arrays 0 z) e
+
+-- array 0 names another array, where it named none
+pub lent_first : (z words : List ℕ) (id : ℕ) (old new : List (Option (Vec ℕ))) → map.get (slot_arrays old) id ≡ Some words →
+    slot_arrays new ≡ map.remove (slot_arrays old) id → arrays_of words id new ≡ map.insert (arrays_of z 0 old) 0 words
+lent_first z words id old new there e =
+    ap (λ arrays. map.insert (map.insert arrays id words) 0 words) e
+    ∙ ap (λ arrays. map.insert arrays 0 words) (insert_removed (slot_arrays old) id words ∙ insert_same (slot_arrays old) id words there)
+    ∙ sym (insert_again (slot_arrays old) 0 z words) ∙ ap (λ arrays. map.insert arrays 0 words) (sym (unnamed z old))
+
+-- array 0 names another array, where it named one
+pub lent_next : (z words : List ℕ) (n id : ℕ) (old new : List (Option (Vec ℕ))) → id ≢ n → map.get (slot_arrays old) id ≡ Some words →
+    slot_arrays new ≡ map.insert (map.remove (slot_arrays old) id) n z → arrays_of words id new ≡ map.insert (arrays_of z n old) 0 words
+lent_next z words n id old new ne there e =
+    ap (λ arrays. map.insert (map.insert arrays id words) 0 words) e
+    ∙ ap (λ arrays. map.insert arrays 0 words)
+    (insert_swap (map.remove (slot_arrays old) id) n id z words (λ same. ne (sym same))
+    ∙ ap (λ arrays. map.insert arrays n z) (insert_removed (slot_arrays old) id words ∙ insert_same (slot_arrays old) id words there))
+    ∙ sym (insert_again (map.insert (slot_arrays old) n z) 0 z words)
 
 pub same_length : {X : Type 0} (v w : Vec X) → vec_len v ≡ vec_len w → length v.items ≡ length w.items
 same_length v w e = sym v.ok.0 ∙ e ∙ w.ok.0

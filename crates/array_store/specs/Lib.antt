@@ -1,3 +1,3 @@
-pub mod Held
+pub mod StoreView
 pub mod Refusals
-pub mod Slots
+pub mod inner

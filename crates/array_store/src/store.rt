@@ -1,16 +1,18 @@
-// Every array stands in a vector of its own, at the place that its identifier numbers.
-ghost use Rattle.std.specs.Prelude.{◌≡◌, ℕ, ◌+◌, ◌-◌, ◌^◌, ◌≤◌, ◌<◌, List, length, replicate, slice_set, slice_index, option_copied, vec_len, vec_capacity, All, IfOk, IfErr, OnOk, OnErr};
+// Every array stands in a vector of its own: array 0 in `zero`, and each other at the place that its
+// identifier numbers.
+ghost use Rattle.std.specs.Prelude.{Some, ◌≡◌, ℕ, ◌+◌, ◌-◌, ◌^◌, ◌≤◌, ◌<◌, List, length, replicate, slice_set, slice_index, option_copied, vec_len, vec_capacity, All, IfOk, IfErr, OnOk, OnErr};
 ghost use Rattle.std.specs.Option.{option_map};
 ghost use Rattle.std.specs.FinMap as map;
 ghost use Rattle.um_word.specs.State.{array_at, live_arrays, live_words};
-ghost use Rattle.um_word.specs.Rule.{next_identifier, taken, returned};
-ghost use Rattle.array_store.specs.Held.{IsHeld, HasArray, HasWord, new_held};
-ghost use Rattle.array_store.specs.Refusals.{RefusesNew, RefusesWord, RefusesAllocation, FitsAllocation, RefusesAbandonment, RefusesLoad, words_loaded};
-ghost use Rattle.array_store.specs.Slots.{slot_arrays, identifiers_of};
+ghost use Rattle.um_word.specs.Rule.{next_identifier, taken, handed_back};
+ghost use Rattle.array_store.specs.StoreView.{most_live_arrays, most_live_words, IsStore, HasArray, HasWord, new_held};
+ghost use Rattle.array_store.specs.Refusals.{RefusesNew, RefusesWord, RefusesAmendment, RefusesAllocation, FitsAllocation, RefusesAbandonment, RefusesLoad, words_loaded};
+ghost use Rattle.array_store.specs.inner.Slots.{slot_arrays, arrays_of, identifiers_of, HasOwnWords, IsLent};
 
 use crate::fault::StoreFault;
 use std::alloc::Global;
 use std::marker::Model;
+use std::mem;
 use umix_base::{Limits, Memory};
 
 /// The greatest limit that a store may have on its arrays, without array 0.
@@ -23,7 +25,12 @@ pub const MOST_WORDS: u64 = 268_435_456;
 #[derive(Drop)]
 pub struct Store {
     alloc: Global,
-    // The words of the array that is numbered by the place, or `None` where it was abandoned.
+    // The words of array 0, and of the array that it names.
+    zero: Vec<u32>,
+    // The array that array 0 names, or 0 where its words are its own.
+    named: u32,
+    // The words of the array that is numbered by the place, or `None` where it was abandoned or array 0
+    // has them. The first place is never used.
     slots: Vec<Option<Vec<u32>>>,
     // The abandoned identifiers in the order of abandonment, with room for all that were made.
     free: Vec<u32>,
@@ -33,17 +40,17 @@ pub struct Store {
 }
 
 impl Model for Store {
-    ghost use Rattle.array_store.specs.Held.{Held, held_code};
+    ghost use Rattle.array_store.specs.StoreView.{StoreView, held_code};
 
-    ghost Value = { Held };
+    ghost Value = { StoreView };
 
     ghost coded = { held_code };
 
-    ghost use Rattle.array_store.specs.Slots.{held_of, IsSound};
+    ghost use Rattle.array_store.specs.inner.Slots.{store_view, IsSoundInside};
 
-    ghost view = { held_of };
+    ghost view = { store_view };
 
-    ghost invariant = { IsSound };
+    ghost invariant = { IsSoundInside };
 }
 
 impl Store {
@@ -51,12 +58,12 @@ impl Store {
     ///
     /// `WordsFull` comes where they are more than the limit on words, else `Memory` may.
     pub fn new(alloc: Global, zero: Vec<u32>, limits: Limits) -> Result<Store, StoreFault>
-        requires arrays { limits.arrays ≤ MOST_ARRAYS }
-        requires words { limits.words ≤ MOST_WORDS }
+        requires arrays { limits.arrays ≤ most_live_arrays }
+        requires words { limits.words ≤ most_live_words }
         ensures ok { IfOk result (λ store. store ≡ new_held zero.items limits) }
         ensures fits { OnOk result (length zero.items ≤ limits.words) }
         ensures err { IfErr result (RefusesNew zero.items limits) }
-        ensures held { IfOk result IsHeld }
+        ensures held { IfOk result IsStore }
     {
         words_fit(&zero);
         let words = zero.len() as u64;
@@ -66,9 +73,11 @@ impl Store {
         let Ok(mut slots) = Vec::with_capacity(alloc, 1) else {
             return Err(StoreFault::Memory);
         };
-        slots.push_reserved(Some(zero));
+        slots.push_reserved(None);
         Ok(Store {
             alloc,
+            zero,
+            named: 0,
             slots,
             free: Vec::new(alloc),
             words,
@@ -80,9 +89,9 @@ impl Store {
     pub fn index(&self, id: u32, at: u32) -> Result<u32, StoreFault>
         ensures ok { IfOk result (HasWord self.now id at) }
         ensures err { IfErr result (RefusesWord self.now id at) }
-        ensures held { IsHeld self.now }
+        ensures held { IsStore self.now }
     {
-        match array_of(&self.slots, id) {
+        match array_of(&self.zero, self.named, &self.slots, id) {
             None => Err(StoreFault::Inactive),
             Some(words) => match words.get(at as usize) {
                 None => Err(StoreFault::Outside),
@@ -91,8 +100,8 @@ impl Store {
         }
     }
 
-    /// The word at an offset of an array, from 0, becomes this one. `Inactive`, then `Outside`.
-    /// In constant time, and it takes no memory.
+    /// The word at an offset of an array, from 0, becomes this one, in that array alone. `Inactive`,
+    /// then `Outside`, then `Memory`.
     pub fn amend(&mut self, id: u32, at: u32, word: u32) -> Result<(), StoreFault>
         ensures ok { OnOk result (self.new ≡ record self.old {
           arrays =
@@ -100,12 +109,23 @@ impl Store {
         }) }
         ensures there { OnOk result
             (HasWord self.old id at (slice_index (array_at self.old.arrays id) at)) }
-        ensures err { IfErr result (RefusesWord self.old id at) }
+        ensures err { IfErr result (RefusesAmendment self.old id at) }
         ensures kept { OnErr result (self.new ≡ self.old) }
-        ensures held { IsHeld self.new }
+        ensures held { IsStore self.new }
     {
         self.index(id, at)?;
-        write_word(&mut self.slots, id, at, word);
+        if part(
+            self.alloc,
+            &mut self.zero,
+            &mut self.named,
+            &mut self.slots,
+            id,
+        )
+        .is_err()
+        {
+            return Err(StoreFault::Memory);
+        }
+        write_word(&mut self.zero, self.named, &mut self.slots, id, at, word);
         Ok(())
     }
 
@@ -123,7 +143,7 @@ impl Store {
         ensures fits { OnOk result (FitsAllocation self.old size) }
         ensures err { IfErr result (RefusesAllocation self.old size) }
         ensures kept { OnErr result (self.new ≡ self.old) }
-        ensures held { IsHeld self.new }
+        ensures held { IsStore self.new }
     {
         let arrays = (self.slots.len() - self.free.len()) as u64;
         if arrays > self.limits.arrays {
@@ -148,28 +168,28 @@ impl Store {
     pub fn abandon(&mut self, id: u32) -> Result<(), StoreFault>
         ensures ok { OnOk result (self.new ≡ record self.old {
           arrays = map.remove self.old.arrays id;
-          identifiers = returned self.old.identifiers id;
+          identifiers = handed_back self.old.identifiers id;
         }) }
         ensures positive { OnOk result (1 ≤ id) }
         ensures there { OnOk result (HasArray self.old id) }
         ensures err { IfErr result (RefusesAbandonment self.old id) }
         ensures kept { OnErr result (self.new ≡ self.old) }
-        ensures held { IsHeld self.new }
+        ensures held { IsStore self.new }
     {
-        let Some(words) = array_of(&self.slots, id) else {
+        let Some(words) = array_of(&self.zero, self.named, &self.slots, id) else {
             return Err(StoreFault::Inactive);
         };
         if id == 0 {
             return Err(StoreFault::Zero);
         }
         self.words -= words.len() as u64;
-        empty_slot(&mut self.slots, id);
+        forget(&mut self.named, &mut self.slots, id);
         self.free.push_reserved(id);
         Ok(())
     }
 
     /// A duplicate of the array takes the place of array 0; where it is array 0, nothing changes.
-    /// `Inactive`, then `WordsFull`, then `Memory`. In time linear in its words.
+    /// `Inactive`, then `WordsFull`. It takes no memory.
     pub fn load(&mut self, id: u32) -> Result<(), StoreFault>
         ensures zero { id ≡ 0 → (result ≡ Ok tt) × (self.new ≡ self.old) }
         ensures ok { OnOk result (1 ≤ id → self.new ≡ record self.old {
@@ -180,22 +200,19 @@ impl Store {
         ensures fits { OnOk result (words_loaded self.old id ≤ self.old.limits.words) }
         ensures err { IfErr result (RefusesLoad self.old id) }
         ensures kept { OnErr result (self.new ≡ self.old) }
-        ensures held { IsHeld self.new }
+        ensures held { IsStore self.new }
     {
-        let Some(source) = array_of(&self.slots, id) else {
+        let Some(source) = array_of(&self.zero, self.named, &self.slots, id) else {
             return Err(StoreFault::Inactive);
         };
-        if id == 0 {
+        if id == 0 || id == self.named {
             return Ok(());
         }
-        let words = self.words - length_of(&self.slots, 0) + source.len() as u64;
+        let words = self.words - self.zero.len() as u64 + source.len() as u64;
         if words > self.limits.words {
             return Err(StoreFault::WordsFull(words));
         }
-        let Ok(copy) = Vec::from_slice(self.alloc, source) else {
-            return Err(StoreFault::Memory);
-        };
-        put_array(&mut self.slots, 0, copy);
+        lend(&mut self.zero, &mut self.named, &mut self.slots, id);
         self.words = words;
         Ok(())
     }
@@ -203,9 +220,9 @@ impl Store {
     /// How many words an array has, or `None` where there is no such array. In constant time.
     pub fn size(&self, id: u32) -> Option<u64>
         ensures value { result ≡ option_map length (map.get self.now.arrays id) }
-        ensures held { IsHeld self.now }
+        ensures held { IsStore self.now }
     {
-        match array_of(&self.slots, id) {
+        match array_of(&self.zero, self.named, &self.slots, id) {
             None => None,
             Some(words) => Some(words.len() as u64),
         }
@@ -216,7 +233,7 @@ impl Store {
     pub fn live(&self) -> (u64, u64)
         ensures arrays { result.0 ≡ live_arrays self.now.arrays }
         ensures words { result.1 ≡ live_words self.now.arrays }
-        ensures held { IsHeld self.now }
+        ensures held { IsStore self.now }
     {
         ((self.slots.len() - 1 - self.free.len()) as u64, self.words)
     }
@@ -230,9 +247,17 @@ fn words_fit(words: &[u32])
 }
 
 // The words of an array, if it is there.
-fn array_of(slots: &[Option<Vec<u32>>], id: u32) -> Option<&[u32]>
-    ensures { option_copied result ≡ map.get (slot_arrays slots.now) id }
+fn array_of<'a>(
+    zero: &'a [u32],
+    named: u32,
+    slots: &'a [Option<Vec<u32>>],
+    id: u32,
+) -> Option<&'a [u32]>
+    ensures { option_copied result ≡ map.get (arrays_of zero.now named slots.now) id }
 {
+    if id == 0 || id == named {
+        return Some(zero);
+    }
     let Some(slot) = slots.get(id as usize) else {
         return None;
     };
@@ -242,22 +267,27 @@ fn array_of(slots: &[Option<Vec<u32>>], id: u32) -> Option<&[u32]>
     }
 }
 
-fn length_of(slots: &[Option<Vec<u32>>], id: u32) -> u64
-    ensures { result ≡ length (array_at (slot_arrays slots.now) id) }
-{
-    match array_of(slots, id) {
-        None => 0,
-        Some(words) => words.len() as u64,
-    }
-}
-
 // A word of an array that has one at this offset.
-fn write_word(slots: &mut Vec<Option<Vec<u32>>>, id: u32, at: u32, word: u32)
-    requires { at < length (array_at (slot_arrays slots.old.items) id) }
-    ensures arrays { slot_arrays slots.new.items ≡ map.insert (slot_arrays slots.old.items) id
-        (slice_set (array_at (slot_arrays slots.old.items) id) at word) }
+fn write_word(
+    zero: &mut Vec<u32>,
+    named: u32,
+    slots: &mut Vec<Option<Vec<u32>>>,
+    id: u32,
+    at: u32,
+    word: u32,
+)
+    requires apart { HasOwnWords id named }
+    requires within { at < length (array_at (arrays_of zero.old.items named slots.old.items) id) }
+    ensures arrays { arrays_of zero.new.items named slots.new.items
+        ≡ map.insert (arrays_of zero.old.items named slots.old.items) id
+        (slice_set (array_at (arrays_of zero.old.items named slots.old.items) id) at word) }
     ensures len { vec_len slots.new ≡ vec_len slots.old }
+    ensures lent { IsLent named slots.old.items → IsLent named slots.new.items }
 {
+    if id == 0 {
+        zero[at as usize] = word;
+        return;
+    }
     match &mut slots[id as usize] {
         Some(words) => words[at as usize] = word,
         None => unreachable!(),
@@ -272,6 +302,88 @@ fn put_array(slots: &mut Vec<Option<Vec<u32>>>, id: u32, words: Vec<u32>)
     ensures len { vec_len slots.new ≡ vec_len slots.old }
 {
     slots[id as usize] = Some(words);
+}
+
+// Where array 0 and this array have the same words, array 0 gets a copy as its own.
+fn part(
+    alloc: Global,
+    zero: &mut Vec<u32>,
+    named: &mut u32,
+    slots: &mut Vec<Option<Vec<u32>>>,
+    id: u32,
+) -> Result<(), Memory>
+    requires { named.old < vec_len slots.old }
+    ensures apart { OnOk result (HasOwnWords id named.new) }
+    ensures arrays { arrays_of zero.new.items named.new slots.new.items
+        ≡ arrays_of zero.old.items named.old slots.old.items }
+    ensures len { vec_len slots.new ≡ vec_len slots.old }
+    ensures named { named.new < vec_len slots.new }
+    ensures lent { IsLent named.old slots.old.items → IsLent named.new slots.new.items }
+{
+    if *named == 0 || (id != 0 && id != *named) {
+        return Ok(());
+    }
+    let copy = Vec::from_slice(alloc, zero)?;
+    put_array(slots, *named, mem::replace(zero, copy));
+    *named = 0;
+    Ok(())
+}
+
+// Array 0 becomes the name of another array, whose words it has from then on. The array that it named
+// gets its words back, and words of its own are dropped.
+fn lend(zero: &mut Vec<u32>, named: &mut u32, slots: &mut Vec<Option<Vec<u32>>>, id: u32)
+    requires positive { 1 ≤ id }
+    requires other { id ≡ named.old → ⊥ }
+    requires there { map.get (slot_arrays slots.old.items) id ≡ Some (array_at (slot_arrays slots.old.items) id) }
+    requires named { named.old < vec_len slots.old }
+    ensures arrays { arrays_of zero.new.items named.new slots.new.items
+        ≡ map.insert (arrays_of zero.old.items named.old slots.old.items) 0
+        (array_at (slot_arrays slots.old.items) id) }
+    ensures words { zero.new.items ≡ array_at (slot_arrays slots.old.items) id }
+    ensures len { vec_len slots.new ≡ vec_len slots.old }
+    ensures named { named.new < vec_len slots.new }
+    ensures lent { IsLent named.new slots.new.items }
+{
+    let words = take_array(slots, id);
+    let before = mem::replace(zero, words);
+    let other = mem::replace(named, id);
+    if other == 0 {
+        return;
+    }
+    put_array(slots, other, before);
+}
+
+// The array is no more. Where array 0 names it, array 0 keeps the words.
+fn forget(named: &mut u32, slots: &mut Vec<Option<Vec<u32>>>, id: u32)
+    requires positive { 1 ≤ id }
+    requires within { id < vec_len slots.old }
+    requires named { named.old < vec_len slots.old }
+    requires lent { IsLent named.old slots.old.items }
+    ensures arrays { (words : List ℕ) → arrays_of words named.new slots.new.items
+        ≡ map.remove (arrays_of words named.old slots.old.items) id }
+    ensures len { vec_len slots.new ≡ vec_len slots.old }
+    ensures named { named.new < vec_len slots.new }
+    ensures lent { IsLent named.new slots.new.items }
+{
+    if id == *named {
+        *named = 0;
+        return;
+    }
+    empty_slot(slots, id);
+}
+
+// The words of an array that is there, which leaves its slot empty.
+fn take_array(slots: &mut Vec<Option<Vec<u32>>>, id: u32) -> Vec<u32>
+    requires { map.get (slot_arrays slots.old.items) id ≡ Some (array_at (slot_arrays slots.old.items) id) }
+    ensures words { result.items ≡ array_at (slot_arrays slots.old.items) id }
+    ensures arrays { slot_arrays slots.new.items ≡ map.remove (slot_arrays slots.old.items) id }
+    ensures len { vec_len slots.new ≡ vec_len slots.old }
+    ensures within { id < vec_len slots.old }
+{
+    match slots[id as usize].take() {
+        Some(words) => words,
+        None => unreachable!(),
+    }
 }
 
 // The next identifier is handed out for an array of these words, with room for its return.
@@ -294,6 +406,7 @@ fn put_next(
     ensures kept { OnErr result
         ((slots.new.items ≡ slots.old.items) × (free.new.items ≡ free.old.items)) }
     ensures room { length slots.new.items - 1 ≤ vec_capacity free.new }
+    ensures some { length slots.old.items ≤ length slots.new.items }
 {
     if let Some(id) = free.pop() {
         put_array(slots, id, words);

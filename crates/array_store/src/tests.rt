@@ -45,8 +45,10 @@ fn answers(rt: HostRuntime) -> Result<(), Fail> {
         Store::new(alloc, [10, 20].to_vec(alloc)?, ample)?,
         Store::new(alloc, [0].to_vec(alloc)?, few)?,
         Store::new(alloc, [0, 0].to_vec(alloc)?, short)?,
+        Store::new(alloc, [5].to_vec(alloc)?, ample)?,
     ];
     for (store, call, want) in [
+        // Words aren't shared after a load, and an identifier comes back.
         (0, Call::Allocate(2), "Ok(1)"),
         (0, Call::Amend(1, 0, 7), "Ok(())"),
         (0, Call::Load(1), "Ok(())"),
@@ -66,6 +68,7 @@ fn answers(rt: HostRuntime) -> Result<(), Fail> {
         (0, Call::Amend(3, 0, 1), "Err(Inactive)"),
         (0, Call::Size(0), "Some(2)"),
         (0, Call::Size(3), "None"),
+        // A limit of three arrays.
         (1, Call::Allocate(1), "Ok(1)"),
         (1, Call::Allocate(1), "Ok(2)"),
         (1, Call::Allocate(1), "Ok(3)"),
@@ -73,13 +76,28 @@ fn answers(rt: HostRuntime) -> Result<(), Fail> {
         (1, Call::Abandon(2), "Ok(())"),
         (1, Call::Allocate(5), "Ok(2)"),
         (1, Call::Live, "(3, 8)"),
+        // A limit of four words, in which a loaded array counts twice.
         (2, Call::Allocate(3), "Err(WordsFull(5))"),
         (2, Call::Allocate(2), "Ok(1)"),
         (2, Call::Load(1), "Ok(())"),
         (2, Call::Load(2), "Err(Inactive)"),
         (2, Call::Abandon(0), "Err(Zero)"),
+        // Array 0 keeps its words where the array that it was loaded from goes.
+        (3, Call::Allocate(1), "Ok(1)"),
+        (3, Call::Load(1), "Ok(())"),
+        (3, Call::Load(0), "Ok(())"),
+        (3, Call::Amend(0, 0, 6), "Ok(())"),
+        (3, Call::Index(1, 0), "Ok(0)"),
+        (3, Call::Live, "(1, 2)"),
+        (3, Call::Load(1), "Ok(())"),
+        (3, Call::Abandon(1), "Ok(())"),
+        (3, Call::Allocate(1), "Ok(1)"),
+        (3, Call::Amend(1, 0, 8), "Ok(())"),
+        (3, Call::Index(0, 0), "Ok(0)"),
+        (3, Call::Load(1), "Ok(())"),
+        (3, Call::Index(0, 0), "Ok(8)"),
     ] {
-        assert!(rt; store < 3);
+        assert!(rt; store < 4);
         let answer = told(alloc, &mut stores[store], &call)?;
         assert_eq!(rt; answer.as_str(), want);
     }
@@ -126,5 +144,25 @@ fn a_million_times(rt: HostRuntime) -> Result<(), Fail> {
         store.abandon(id)?;
     }
     assert_eq!(rt; store.live(), (1, 10));
+    Ok(())
+}
+
+#[test]
+fn loads_make_no_copy(rt: HostRuntime) -> Result<(), Fail> {
+    let alloc = rt.alloc();
+    let ample = Limits {
+        arrays: MOST_ARRAYS,
+        words: MOST_WORDS,
+    };
+    let mut store = Store::new(alloc, [5].to_vec(alloc)?, ample)?;
+    assert_eq!(rt; store.allocate(16_777_216)?, 1);
+    assert_eq!(rt; store.allocate(16_777_216)?, 2);
+    store.amend(2, 16_777_215, 9)?;
+    for _ in 0..500_000 {
+        store.load(1)?;
+        store.load(2)?;
+    }
+    assert_eq!(rt; store.index(0, 16_777_215)?, 9);
+    assert_eq!(rt; store.live(), (2, 50_331_648));
     Ok(())
 }

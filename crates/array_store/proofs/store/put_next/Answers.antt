@@ -4,7 +4,7 @@ use Rattle.std.specs.FinMap as map
 use Rattle.std.proofs.lemmas.Bool.{cond-true}
 use Rattle.std.proofs.lemmas.List.{nil_from_length}
 use Rattle.um_word.specs.Rule.{next_identifier}
-use Rattle.array_store.specs.Slots.{slot_arrays, identifiers_of}
+use Rattle.array_store.specs.inner.Slots.{slot_arrays, identifiers_of}
 use Rattle.array_store.proofs.SlotLemmas.{arrays-push_some}
 use Rattle.array_store.proofs.store.put_next.Goals as goal
 

@@ -1,9 +1,9 @@
-use Rattle.std.proofs.Common.{◌≡◌, ◌-◌, set, length-set, sym, ap, subst, arith}
+use Rattle.std.proofs.Common.{◌≡◌, ◌-◌, set, length-set, sym, ap, subst, ◌∙◌, arith}
 use Rattle.std.specs.FinMap as map
 use Rattle.um_word.specs.State.{array_at, live_words}
 use Rattle.um_word.proofs.Live.{live_words-insert_old}
-use Rattle.array_store.specs.Held.{Held, IsHeld, HasArray}
-use Rattle.array_store.specs.Slots.{slot_arrays, held_of}
+use Rattle.array_store.specs.StoreView.{IsStore, HasArray}
+use Rattle.array_store.specs.inner.Slots.{arrays_of, store_view}
 use Rattle.array_store.proofs.HeldLemmas.{held-amend, word_there}
 use Rattle.array_store.proofs.SlotLemmas.{same_length}
 use Rattle.array_store.proofs.store.Store.amend.Goals as goal
@@ -14,36 +14,43 @@ returns-clause-there c =
 
 pub returns-clause-held : goal.returns-clause-held
 returns-clause-held c =
-    let there : HasArray (held_of c.self.inside) c.args.id =
-    subst (λ h. HasArray h c.args.id) (sym c.self.view_is) c.in_ok-index.ensures.ok.0 in
-    let size = same_length c.write_word.new.slots c.self.inside.slots c.write_word.ensures.len in
-    let new : Held = record (held_of c.self.inside) {
-      arrays = map.insert (slot_arrays c.self.inside.slots.items) c.args.id
-          (set (array_at (slot_arrays c.self.inside.slots.items) c.args.id) c.args.at c.args.word);
-    } in
-    let held : IsHeld new =
-    held-amend (held_of c.self.inside) c.args.id c.args.at c.args.word c.self.invariant.held there c.ranges.word.fits in
-    subst IsHeld (λ i. record {
-      arrays = sym c.write_word.ensures.arrays i;
+    let h = store_view c.self.inside in
+    let there : HasArray h c.args.id = subst (λ h. HasArray h c.args.id) (sym c.self.view_is) c.in_ok-index.ensures.ok.0 in
+    let size = same_length c.write_word.new.slots c.self.inside.slots (c.write_word.ensures.len ∙ c.part.ensures.len) in
+    let arrays : arrays_of c.write_word.new.zero.items c.part.new.named c.write_word.new.slots.items
+    ≡ map.insert h.arrays c.args.id (set (array_at h.arrays c.args.id) c.args.at c.args.word) =
+    c.write_word.ensures.arrays
+    ∙ (λ i. map.insert (c.part.ensures.arrays i) c.args.id (set (array_at (c.part.ensures.arrays i) c.args.id) c.args.at c.args.word)) in
+    let held : IsStore (record h { arrays = map.insert h.arrays c.args.id (set (array_at h.arrays c.args.id) c.args.at c.args.word) }) =
+    held-amend h c.args.id c.args.at c.args.word c.self.invariant.held there c.ranges.word.fits in
+    subst IsStore (λ i. record {
+      arrays = sym arrays i;
       identifiers = record { made = sym size i - 1; abandoned = c.self.inside.free.items };
       limits = c.self.inside.limits;
     }) held
 
-pub invariant_of-self : goal.invariant_of-self
-invariant_of-self c =
-    let slots = c.self.inside.slots.items in
-    let there : HasArray (held_of c.self.inside) c.args.id =
-    subst (λ h. HasArray h c.args.id) (sym c.self.view_is) c.in_ok-index.ensures.ok.0 in
-    let size = same_length c.write_word.new.slots c.self.inside.slots c.write_word.ensures.len in
-    let old = array_at (slot_arrays slots) c.args.id in
-    let live = live_words-insert_old (slot_arrays slots) c.args.id old (set old c.args.at c.args.word) there in
+pub invariant_of-self-2 : goal.invariant_of-self-2
+invariant_of-self-2 c =
+    let h = store_view c.self.inside in
+    let there : HasArray h c.args.id = subst (λ h. HasArray h c.args.id) (sym c.self.view_is) c.in_ok-index.ensures.ok.0 in
+    let size = same_length c.write_word.new.slots c.self.inside.slots (c.write_word.ensures.len ∙ c.part.ensures.len) in
+    let arrays : arrays_of c.write_word.new.zero.items c.part.new.named c.write_word.new.slots.items
+    ≡ map.insert h.arrays c.args.id (set (array_at h.arrays c.args.id) c.args.at c.args.word) =
+    c.write_word.ensures.arrays
+    ∙ (λ i. map.insert (c.part.ensures.arrays i) c.args.id (set (array_at (c.part.ensures.arrays i) c.args.id) c.args.at c.args.word)) in
+    let old = array_at h.arrays c.args.id in
+    let live = live_words-insert_old h.arrays c.args.id old (set old c.args.at c.args.word) there in
     let as_long = length-set old c.args.at c.args.word in
-    let words : live_words (slot_arrays c.write_word.new.slots.items) ≡ live_words (map.insert (slot_arrays slots) c.args.id (set old c.args.at c.args.word)) =
-    ap live_words c.write_word.ensures.arrays in
+    let words = ap live_words arrays in
     let counted = c.self.invariant.words in
     let room = c.self.invariant.room in
+    let place = c.part.ensures.named in
+    let long = same_length c.write_word.new.slots c.part.new.slots c.write_word.ensures.len in
+    let parts = c.part.new.slots.ok.0 in
     record {
       held = returns-clause-held c;
+      named = omega (arith, place, long, parts);
+      lent = c.write_word.ensures.lent (c.part.ensures.lent c.self.invariant.lent);
       words = omega (arith, live, as_long, words, counted);
       room = omega (arith, room, size);
     }
