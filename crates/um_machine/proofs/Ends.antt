@@ -3,28 +3,28 @@ use Rattle.std.proofs.Common.{◌≡◌, ℕ, suc, ◌+◌, ◌-◌, ◌<◌, �
 use Rattle.std.specs.Prelude.{Err}
 use Rattle.um_word.specs.State.{State}
 use Rattle.um_word.specs.declared.op.Op.{Op}
-use Rattle.um_word.specs.declared.op.Op.TheVariants.{Alloc, Out, Input, Load}
+use Rattle.um_word.specs.declared.op.Op.TheVariants.{Amend, Alloc, Out, Input}
 use Rattle.um_word.specs.Table as table
 use Rattle.um_word.specs.Table.{Next, Goes, Stops, Fault, cycle, op_under}
 use Rattle.um_word.specs.Run.{Stands, Failed}
 use Rattle.um_word.specs.Rule.{next_identifier, ruled}
 use Rattle.um_machine.specs.declared.stop.Stop.{Stop}
 use Rattle.um_machine.specs.declared.stop.Stop.TheVariants.{Halted, Budget, ReadFault, WriteFault, Memory}
-use Rattle.um_machine.specs.Core.{Core, state_of}
-use Rattle.um_machine.specs.Outside.{MayRest, MayHold}
-use Rattle.um_machine.specs.Stops.{stop_of, end_of, MayFail}
-use Rattle.um_machine.specs.Rows.{Meets, Wrote}
-use Rattle.um_machine.specs.Runs.{MayStandIn, Leads, EndsAs, Remains, EndsEarly, RunEnds}
+use Rattle.um_machine.specs.MachineView.{MachineView, state_of}
+use Rattle.um_machine.specs.Outside.{MayHold}
+use Rattle.um_machine.specs.Stops.{stop_of, unfailed_end, MayFail}
+use Rattle.um_machine.specs.inner.OperatorCalls.{AnswersRow, Wrote}
+use Rattle.um_machine.specs.Runs.{Seen, Sends, EndsAs, Remains, EndsEarly, RunEnds}
 use Rattle.um_machine.proofs.Cycles.{goes_on, stays, next, Made}
 
 -- where a run may be taken to stand, and how it ended there
-pub record Ended (n : ℕ) (old new : Core) (s : State) (left : List ℕ) (now : Option (List ℕ)) (stop : Stop) : Type 0 where
+pub record Ended (n : ℕ) (old new : MachineView) (s : State) (left : List ℕ) (now : Option (List ℕ)) (stop : Stop) : Type 0 where
   pub sent : List ℕ
   pub holds : MayHold now sent
   pub ends : RunEnds n old new s (state_of new left sent) stop
 
 -- a run that stands at a halted state stands there after more cycles
-pub halted_end : (k n : ℕ) (old new : Core) (s : State) (left : List ℕ) (now : Option (List ℕ)) → k ≤ n →
+pub halted_end : (k n : ℕ) (old new : MachineView) (s : State) (left : List ℕ) (now : Option (List ℕ)) → k ≤ n →
     Made k old s new left now → new.halted ≡ true → Ended n old new s left now Halted
 halted_end k n old new s left now le m h =
     let t : State = state_of new left m.sent in
@@ -36,34 +36,34 @@ halted_end k n old new s left now le m h =
     record {
       sent = m.sent;
       holds = m.holds;
-      ends = subst (λ x. EndsAs x new t Halted) (sym stands) (refl, refl, ap end_of (sym h));
+      ends = subst (λ x. EndsAs x new t Halted) (sym stands) (refl, refl, ap unfailed_end (sym h));
     }
 
-pub budget_end : (n : ℕ) (old new : Core) (s : State) (left : List ℕ) (now : Option (List ℕ)) →
+pub budget_end : (n : ℕ) (old new : MachineView) (s : State) (left : List ℕ) (now : Option (List ℕ)) →
     Made n old s new left now → new.halted ≡ false → Ended n old new s left now Budget
 budget_end n old new s left now m h = record {
   sent = m.sent;
   holds = m.holds;
-  ends = subst (λ x. EndsAs x new (state_of new left m.sent) Budget) (sym m.stands) (refl, refl, ap end_of (sym h));
+  ends = subst (λ x. EndsAs x new (state_of new left m.sent) Budget) (sym m.stands) (refl, refl, ap unfailed_end (sym h));
 }
 
 -- a fault of the table is none of the outside or of memory
-of_table : (fault : Fault) (n : ℕ) (old new : Core) (s t : State) →
+of_table : (fault : Fault) (n : ℕ) (old new : MachineView) (s t : State) →
     EndsAs (ruled old.limits n old.identifiers s) new t (stop_of fault) → RunEnds n old new s t (stop_of fault)
 of_table table.FingerOutside n old new s t e = e
 of_table _ n old new s t e = e
 
 -- what isn't of the table ends a run early
-early : (registers : List ℕ) (op : Option Op) (stop : Stop) (n : ℕ) (old new : Core) (s t : State) →
+early : (registers : List ℕ) (op : Option Op) (stop : Stop) (n : ℕ) (old new : MachineView) (s t : State) →
     MayFail registers op stop → EndsEarly n old new s t stop → RunEnds n old new s t stop
 early registers (Some (Input c)) ReadFault n old new s t f e = e
 early registers (Some (Out c)) WriteFault n old new s t f e = e
 early registers (Some (Alloc b c)) Memory n old new s t f e = e
-early registers (Some (Load b c)) Memory n old new s t f e = e
+early registers (Some (Amend a b c)) Memory n old new s t f e = e
 early registers op stop n old new s t f e = absurd f
 
 -- a run whose next cycle failed
-module _ (k n : ℕ) (first old : Core) (s : State) (left : List ℕ) (before now : Option (List ℕ)) (fewer : k < n)
+module _ (k n : ℕ) (first old : MachineView) (s : State) (left : List ℕ) (before now : Option (List ℕ)) (fewer : k < n)
     (m : Made k first s old left before) (running : old.halted ≡ false) (same : old.limits ≡ first.limits) where
   u : State
   u = state_of old left m.sent
@@ -116,27 +116,21 @@ module _ (k n : ℕ) (first old : Core) (s : State) (left : List ℕ) (before no
       }
 
   go : (stop : Stop) (r : Next) → cycle (state_of old left m.sent) old.limits (next_identifier old.identifiers) ≡ r →
-      Meets (op_under (state_of old [] [])) old left before now r (Err stop) → Ended n first old s left now stop
+      AnswersRow (op_under (state_of old [] [])) old left before now r (Err stop) → Ended n first old s left now stop
   go stop (Goes t) q x = at_failure stop t q x
   go stop (Stops fault) q x = at_fault fault stop q x
 
-pub failed_end : (k n : ℕ) (first old new : Core) (s : State) (left : List ℕ) (before now : Option (List ℕ)) (stop : Stop) → k < n →
+pub failed_end : (k n : ℕ) (first old new : MachineView) (s : State) (left : List ℕ) (before now : Option (List ℕ)) (stop : Stop) → k < n →
     (m : Made k first s old left before) → old.halted ≡ false → old.limits ≡ first.limits → new ≡ old →
-    Meets (op_under (state_of old [] [])) new left before now (cycle (state_of old left m.sent) old.limits (next_identifier old.identifiers)) (Err stop) →
+    AnswersRow (op_under (state_of old [] [])) new left before now (cycle (state_of old left m.sent) old.limits (next_identifier old.identifiers)) (Err stop) →
     Ended n first new s left now stop
 failed_end k n first old new s left before now stop fewer m running limits same meets =
     subst (λ x. Ended n first x s left now stop) (sym same)
     (go k n first old s left before now fewer m running limits stop (cycle (state_of old left m.sent) old.limits (next_identifier old.identifiers)) refl
-    (subst (λ x. Meets (op_under (state_of old [] [])) x left before now (cycle (state_of old left m.sent) old.limits (next_identifier old.identifiers)) (Err stop)) same meets))
+    (subst (λ x. AnswersRow (op_under (state_of old [] [])) x left before now (cycle (state_of old left m.sent) old.limits (next_identifier old.identifiers)) (Err stop)) same meets))
 
--- all may be taken to have gone from one state to another
-pub led : (n : ℕ) (old new : Core) (rest left held : List ℕ) (input_before input_now before now : Option (List ℕ)) (stop : Stop) →
-    MayRest input_before rest → MayHold before held → MayRest input_now left → Ended n old new (state_of old rest held) left now stop →
-    Leads (MayStandIn old input_before before) (MayStandIn new input_now now) (λ s t. RunEnds n old new s t stop)
-led n old new rest left held input_before input_now before now stop had held_it has e = record {
-  from = state_of old rest held;
-  to = state_of new left e.sent;
-  before = record { is = refl; rest = had; out = held_it };
-  now = record { is = refl; rest = has; out = e.holds };
-  call = e.ends;
-}
+-- how a run ended, for what was written before
+pub sent_by : (n : ℕ) (before now : Seen) (rest left held : List ℕ) (stop : Stop) →
+    Ended n before.machine now.machine (state_of before.machine rest held) left now.output stop →
+    Sends before now rest left held (λ s t. RunEnds n before.machine now.machine s t stop)
+sent_by n before now rest left held stop e = record { out = e.sent; may = e.holds; call = e.ends }

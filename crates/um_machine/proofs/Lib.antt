@@ -4,3 +4,5 @@ pub mod Rests
 pub mod Cycles
 pub mod Ends
 pub mod OneCycle
+pub mod Joined
+pub mod Alone

@@ -2,14 +2,14 @@
 use Rattle.std.proofs.Common.{◌≡◌, ◌<◌, ◌^◌, ℕ, length}
 use Rattle.std.specs.Prelude.{slice_index}
 use Rattle.um_word.specs.State.{array_at}
-use Rattle.array_store.specs.Held.{Held, IsHeld}
-use Rattle.um_machine.specs.Core.{Core, IsWhole}
+use Rattle.array_store.specs.StoreView.{StoreView, IsStore}
+use Rattle.um_machine.specs.MachineView.{MachineView, IsWhole}
 
 -- what the store of a machine holds
-abbrev pub held_of : Core → Held
+abbrev pub held_of : MachineView → StoreView
 held_of m = record { arrays = m.arrays; identifiers = m.identifiers; limits = m.limits }
 
-pub whole_of : (m : Core) → length m.registers ≡ 8 → ((k : ℕ) → slice_index m.registers k < 2 ^ 32) → IsHeld (held_of m) → IsWhole m
+pub whole_of : (m : MachineView) → length m.registers ≡ 8 → ((k : ℕ) → slice_index m.registers k < 2 ^ 32) → IsStore (held_of m) → IsWhole m
 whole_of m eight each held = record {
   well_formed = λ rest out. record {
     eight = eight;

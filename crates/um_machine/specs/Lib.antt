@@ -1,5 +1,6 @@
-pub mod Core
+pub mod MachineView
 pub mod Outside
 pub mod Stops
-pub mod Rows
 pub mod Runs
+pub mod WholeRuns
+pub mod inner

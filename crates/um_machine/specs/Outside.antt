@@ -1,6 +1,8 @@
 -- What a source and a sink may be taken to hold, whether they tell it or not.
 use Rattle.std.specs.Prelude.{◌≡◌, ℕ, ◌-◌, ◌^◌, ◌<◌, ◌≤◌, ◌⊎◌, List, Option, Some, None, All}
 use Rattle.umix_base.specs.Causes.{Rose, KeepsTelling}
+use Rattle.umix_base.specs.declared.source.Source as source
+use Rattle.umix_base.specs.declared.sink.Sink as sink
 
 -- what an Input puts into its register: a byte, or 2 ^ 32 - 1 for an end that it met
 abbrev pub IsInput : ℕ → Type 0
@@ -23,3 +25,9 @@ pub record IsUsed (told_before told_now : Option (List ℕ)) (before now : ℕ) 
   pub tells : KeepsTelling told_before told_now
   pub later : before ≤ now
   pub rose : failed → Rose before now
+
+abbrev pub IsAsked : {I : Type 0} → source.Ghosts I → I → I → Type 0 → Type 0
+IsAsked i old new failed = IsUsed (i.rest old) (i.rest new) (i.faults old) (i.faults new) failed
+
+abbrev pub IsFed : {O : Type 0} → sink.Ghosts O → O → O → Type 0 → Type 0
+IsFed o old new failed = IsUsed (o.written old) (o.written new) (o.faults old) (o.faults new) failed

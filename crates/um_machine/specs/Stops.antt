@@ -1,7 +1,7 @@
 -- Why a machine stops, beside its table.
-use Rattle.std.specs.Prelude.{ℕ, ◌≤◌, List, Bool, true, false, Option, Some, codes, slice_index}
+use Rattle.std.specs.Prelude.{ℕ, List, Bool, true, false, Option, Some, codes}
 use Rattle.um_word.specs.declared.op.Op.{Op}
-use Rattle.um_word.specs.declared.op.Op.TheVariants.{Alloc, Out, Input, Load}
+use Rattle.um_word.specs.declared.op.Op.TheVariants.{Amend, Alloc, Out, Input}
 use Rattle.um_word.specs.Table.{Fault}
 use Rattle.um_word.specs.Table as table
 use Rattle.um_machine.specs.declared.stop.Turn.{Turn}
@@ -31,36 +31,44 @@ turn_of true = turns.Halted
 turn_of false = turns.Running
 
 -- how a run without a fault ends
-abbrev pub end_of : Bool → Stop
-end_of true = Halted
-end_of false = Budget
+abbrev pub unfailed_end : Bool → Stop
+unfailed_end true = Halted
+unfailed_end false = Budget
 
--- With these registers, at these operators alone a cycle may fail for another cause than the table's. A
--- Load of array 0 takes no memory.
+-- With these registers, at these operators alone a cycle may fail for another cause than the table's.
 abbrev pub MayFail : List ℕ → Option Op → Stop → Type 0
 MayFail registers (Some (Input c)) ReadFault = Unit {0}
 MayFail registers (Some (Out c)) WriteFault = Unit {0}
 MayFail registers (Some (Alloc b c)) Memory = Unit {0}
-MayFail registers (Some (Load b c)) Memory = 1 ≤ slice_index registers b
+MayFail registers (Some (Amend a b c)) Memory = Unit {0}
 MayFail registers op stop = ⊥
 
 -- the name of a stop, as it is printed
-abbrev pub name_of : Stop → List ℕ
-name_of Halted = codes "Halted"
-name_of Budget = codes "Budget"
-name_of FingerOutside = codes "FingerOutside"
-name_of BadOperator = codes "BadOperator"
-name_of IndexInactive = codes "IndexInactive"
-name_of IndexOutside = codes "IndexOutside"
-name_of AmendInactive = codes "AmendInactive"
-name_of AmendOutside = codes "AmendOutside"
-name_of DivideByZero = codes "DivideByZero"
-name_of AbandonZero = codes "AbandonZero"
-name_of AbandonInactive = codes "AbandonInactive"
-name_of LoadInactive = codes "LoadInactive"
-name_of OutputTooLarge = codes "OutputTooLarge"
-name_of (ArraysFull count) = codes "ArraysFull"
-name_of (WordsFull count) = codes "WordsFull"
-name_of ReadFault = codes "ReadFault"
-name_of WriteFault = codes "WriteFault"
-name_of Memory = codes "Memory"
+abbrev pub stop_name : Stop → List ℕ
+stop_name Halted = codes "Halted"
+stop_name Budget = codes "Budget"
+stop_name FingerOutside = codes "FingerOutside"
+stop_name BadOperator = codes "BadOperator"
+stop_name IndexInactive = codes "IndexInactive"
+stop_name IndexOutside = codes "IndexOutside"
+stop_name AmendInactive = codes "AmendInactive"
+stop_name AmendOutside = codes "AmendOutside"
+stop_name DivideByZero = codes "DivideByZero"
+stop_name AbandonZero = codes "AbandonZero"
+stop_name AbandonInactive = codes "AbandonInactive"
+stop_name LoadInactive = codes "LoadInactive"
+stop_name OutputTooLarge = codes "OutputTooLarge"
+stop_name (ArraysFull count) = codes "ArraysFull"
+stop_name (WordsFull count) = codes "WordsFull"
+stop_name ReadFault = codes "ReadFault"
+stop_name WriteFault = codes "WriteFault"
+stop_name Memory = codes "Memory"
+
+-- the operators at which alone a source and a sink are asked
+abbrev pub is_input : Option Op → Bool
+is_input (Some (Input c)) = true
+is_input op = false
+
+abbrev pub is_output : Option Op → Bool
+is_output (Some (Out c)) = true
+is_output op = false

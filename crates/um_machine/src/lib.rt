@@ -1,6 +1,7 @@
 //! The machine: cycles by the table, and runs of many cycles, over a source and a sink.
 #![tactic(auto)]
 
+pub mod laws;
 mod machine;
 mod stop;
 #[cfg(test)]

@@ -5,11 +5,12 @@ ghost use Rattle.um_word.specs.Operators.{IsEncodable};
 ghost use Rattle.um_word.specs.State.{array_at, live_arrays, live_words};
 ghost use Rattle.um_word.specs.Table.{row, moved, cycle, op_under};
 ghost use Rattle.um_word.specs.Rule.{next_identifier, left_by, identifiers_left};
-ghost use Rattle.um_machine.specs.Core.{state_of, machine_of, IsWhole};
-ghost use Rattle.um_machine.specs.Outside.{MayRest, MayHold, IsUsed};
-ghost use Rattle.um_machine.specs.Stops.{turn_of};
-ghost use Rattle.um_machine.specs.Rows.{Meets, Comes, rest_before};
-ghost use Rattle.um_machine.specs.Runs.{MayStandIn, Leads, RunEnds, CycleEnds};
+ghost use Rattle.array_store.specs.StoreView.{most_live_arrays, most_live_words};
+ghost use Rattle.um_machine.specs.MachineView.{state_of, machine_of, IsWhole};
+ghost use Rattle.um_machine.specs.Outside.{MayRest, MayHold, IsAsked, IsFed};
+ghost use Rattle.um_machine.specs.Stops.{turn_of, is_input, is_output};
+ghost use Rattle.um_machine.specs.inner.OperatorCalls.{AnswersRow, DoesRow, rest_before};
+ghost use Rattle.um_machine.specs.Runs.{seen_by, GoesFromTo, RunEnds, CycleEnds};
 
 use crate::{Stop, Turn};
 use array_store::{Store, StoreFault};
@@ -29,11 +30,11 @@ pub struct Machine {
 }
 
 impl Model for Machine {
-    ghost use Rattle.um_machine.specs.Core.{Core, core_code};
+    ghost use Rattle.um_machine.specs.MachineView.{MachineView, machine_code};
 
-    ghost Value = { Core };
+    ghost Value = { MachineView };
 
-    ghost coded = { core_code };
+    ghost coded = { machine_code };
 
     ghost view = { λ m. record {
       registers = m.registers;
@@ -66,22 +67,27 @@ impl Machine {
     /// are not copied.
     /// See "The start of a run" in docs/MACHINE.md.
     pub fn new(alloc: Global, words: Vec<u32>, limits: Limits) -> Result<Machine, Stop>
-        requires arrays { limits.arrays ≤ 16777216 }
-        requires words { limits.words ≤ 268435456 }
+        requires arrays { limits.arrays ≤ most_live_arrays }
+        requires words { limits.words ≤ most_live_words }
         ensures machine { IfOk result (λ machine. machine ≡ machine_of words.items limits) }
         ensures fits { OnOk result (length words.items ≤ limits.words) }
         ensures fault { IfErr result (λ stop. (stop ≡ Stop.Memory) ⊎
             ((stop ≡ Stop.WordsFull (length words.items)) × (limits.words < length words.items))) }
         ensures memory { result ≡ Err Stop.Memory → length words.items ≤ limits.words }
+        ensures whole { IfOk result IsWhole }
     {
         match Store::new(alloc, words, limits) {
-            Ok(store) => Ok(Machine {
-                store,
-                registers: [0; 8],
-                finger: 0,
-                cycles: 0,
-                halted: false,
-            }),
+            Ok(store) => {
+                let machine = Machine {
+                    store,
+                    registers: [0; 8],
+                    finger: 0,
+                    cycles: 0,
+                    halted: false,
+                };
+                machine.stays_whole();
+                Ok(machine)
+            }
             Err(StoreFault::WordsFull(count)) => Err(Stop::WordsFull(count)),
             Err(_) => Err(Stop::Memory),
         }
@@ -129,6 +135,13 @@ impl Machine {
         self.store.live()
     }
 
+    // what is true of every machine
+    fn stays_whole(&self)
+        ensures { IsWhole self.now }
+    {
+        let _ = self.live();
+    }
+
     fn is_halted(&self) -> bool
         ensures { result ≡ self.now.halted }
     {
@@ -163,7 +176,7 @@ impl Machine {
         requires registers { (a < 8) × (b < 8) × (c < 8) }
         requires finger { self.old.finger + 1 < 2 ^ 32 }
         requires cycles { self.old.cycles + 1 < 2 ^ 64 }
-        ensures { Comes (Op.Index a b c) self.old self.new result }
+        ensures { DoesRow (Op.Index a b c) self.old self.new result }
     {
         let word = match self.store.index(self.register(b), self.register(c)) {
             Ok(word) => word,
@@ -180,13 +193,14 @@ impl Machine {
         requires registers { (a < 8) × (b < 8) × (c < 8) }
         requires finger { self.old.finger + 1 < 2 ^ 32 }
         requires cycles { self.old.cycles + 1 < 2 ^ 64 }
-        ensures { Comes (Op.Amend a b c) self.old self.new result }
+        ensures { DoesRow (Op.Amend a b c) self.old self.new result }
     {
         let (id, at, word) = (self.register(a), self.register(b), self.register(c));
         match self.store.amend(id, at, word) {
             Ok(()) => {}
             Err(StoreFault::Inactive) => return Err(Stop::AmendInactive),
-            Err(_) => return Err(Stop::AmendOutside),
+            Err(StoreFault::Outside) => return Err(Stop::AmendOutside),
+            Err(_) => return Err(Stop::Memory),
         }
         self.advance();
         Ok(())
@@ -197,7 +211,7 @@ impl Machine {
         requires registers { (b < 8) × (c < 8) }
         requires finger { self.old.finger + 1 < 2 ^ 32 }
         requires cycles { self.old.cycles + 1 < 2 ^ 64 }
-        ensures { Comes (Op.Alloc b c) self.old self.new result }
+        ensures { DoesRow (Op.Alloc b c) self.old self.new result }
     {
         let size = self.register(c);
         let id = match self.store.allocate(size) {
@@ -216,7 +230,7 @@ impl Machine {
         requires registers { c < 8 }
         requires finger { self.old.finger + 1 < 2 ^ 32 }
         requires cycles { self.old.cycles + 1 < 2 ^ 64 }
-        ensures { Comes (Op.Abandon c) self.old self.new result }
+        ensures { DoesRow (Op.Abandon c) self.old self.new result }
     {
         let id = self.register(c);
         match self.store.abandon(id) {
@@ -233,14 +247,13 @@ impl Machine {
         requires registers { (b < 8) × (c < 8) }
         requires finger { self.old.finger + 1 < 2 ^ 32 }
         requires cycles { self.old.cycles + 1 < 2 ^ 64 }
-        ensures { Comes (Op.Load b c) self.old self.new result }
+        ensures { DoesRow (Op.Load b c) self.old self.new result }
     {
         let (id, finger) = (self.register(b), self.register(c));
         match self.store.load(id) {
             Ok(()) => {}
-            Err(StoreFault::Inactive) => return Err(Stop::LoadInactive),
             Err(StoreFault::WordsFull(count)) => return Err(Stop::WordsFull(count)),
-            Err(_) => return Err(Stop::Memory),
+            Err(_) => return Err(Stop::LoadInactive),
         }
         self.advance();
         self.finger = finger;
@@ -264,7 +277,7 @@ impl Machine {
             (rest_before result (Some op) (I.rest input.old) self.new.registers left) }
         ensures row { (left : List ℕ) → MayRest (I.rest input.new) left →
             (held : List ℕ) → MayHold (O.written out.old) held →
-            Meets (Some op) self.new left (O.written out.old) (O.written out.new)
+            AnswersRow (Some op) self.new left (O.written out.old) (O.written out.new)
             (row op self.old.limits (next_identifier self.old.identifiers)
             (moved (state_of self.old
             (rest_before result (Some op) (I.rest input.old) self.new.registers left) held)))
@@ -276,10 +289,10 @@ impl Machine {
         ensures counted { OnOk result (self.new.cycles ≡ self.old.cycles + 1) }
         ensures kept { OnErr result
             ((self.new ≡ self.old) × (I.rest input.new ≡ I.rest input.old)) }
-        ensures input { IsUsed (I.rest input.old) (I.rest input.new)
-            (I.faults input.old) (I.faults input.new) (result ≡ Err Stop.ReadFault) }
-        ensures out { IsUsed (O.written out.old) (O.written out.new)
-            (O.faults out.old) (O.faults out.new) (result ≡ Err Stop.WriteFault) }
+        ensures unasked { is_input (Some op) ≡ false → input.new ≡ input.old }
+        ensures unfed { is_output (Some op) ≡ false → out.new ≡ out.old }
+        ensures input { IsAsked I.Source input.old input.new (result ≡ Err Stop.ReadFault) }
+        ensures out { IsFed O.Sink out.old out.new (result ≡ Err Stop.WriteFault) }
     {
         match op {
             Op::Move(a, b, c) => {
@@ -386,7 +399,7 @@ impl Machine {
             (I.rest input.old) self.new.registers left) }
         ensures row { (left : List ℕ) → MayRest (I.rest input.new) left →
             (held : List ℕ) → MayHold (O.written out.old) held →
-            Meets (op_under (state_of self.old [] [])) self.new left
+            AnswersRow (op_under (state_of self.old [] [])) self.new left
             (O.written out.old) (O.written out.new)
             (cycle (state_of self.old (rest_before result (op_under (state_of self.old [] []))
             (I.rest input.old) self.new.registers left) held)
@@ -398,10 +411,12 @@ impl Machine {
         ensures counted { OnOk result (self.new.cycles ≡ self.old.cycles + 1) }
         ensures kept { OnErr result
             ((self.new ≡ self.old) × (I.rest input.new ≡ I.rest input.old)) }
-        ensures input { IsUsed (I.rest input.old) (I.rest input.new)
-            (I.faults input.old) (I.faults input.new) (result ≡ Err Stop.ReadFault) }
-        ensures out { IsUsed (O.written out.old) (O.written out.new)
-            (O.faults out.old) (O.faults out.new) (result ≡ Err Stop.WriteFault) }
+        ensures unasked { is_input (op_under (state_of self.old [] [])) ≡ false →
+            input.new ≡ input.old }
+        ensures unfed { is_output (op_under (state_of self.old [] [])) ≡ false →
+            out.new ≡ out.old }
+        ensures input { IsAsked I.Source input.old input.new (result ≡ Err Stop.ReadFault) }
+        ensures out { IsFed O.Sink out.old out.new (result ≡ Err Stop.WriteFault) }
     {
         let Some(word) = self.word(0, self.finger) else {
             return Err(Stop::FingerOutside);
@@ -415,26 +430,33 @@ impl Machine {
     /// One cycle by the table: its row's next state, or a fault that leaves the machine as it was. A
     /// halted machine answers `Halted` again and changes nothing. `ReadFault` comes only at an Input
     /// whose source failed, `WriteFault` only at an Output whose sink failed; whether its byte went out
-    /// isn't told. `Memory` comes only at an Allocation, or a Load of an array other than 0.
-    /// Constant time, but for an Allocation and a Load. See "One cycle" in docs/MACHINE.md.
+    /// isn't told. `Memory` comes only at an Allocation or an Amendment.
+    /// Constant time, but for an Allocation, and for an Amendment that copies. See "One cycle" in
+    /// docs/MACHINE.md.
     pub fn cycle<I: Source, O: Sink>(&mut self, input: &mut I, out: &mut O) -> Result<Turn, Stop>
         requires cycles { self.old.cycles + 1 < 2 ^ 64 }
-        ensures row { Leads (MayStandIn self.old (I.rest input.old) (O.written out.old))
-            (MayStandIn self.new (I.rest input.new) (O.written out.new))
+        ensures row { let seen = seen_by I.Source O.Sink in
+            GoesFromTo (seen self.old input.old out.old) (seen self.new input.new out.new)
             (λ s t. CycleEnds self.old self.new s t result) }
         ensures counted { self.new.cycles ≤ self.old.cycles + 1 }
+        ensures unasked { is_input (op_under (state_of self.old [] [])) ≡ false →
+            input.new ≡ input.old }
+        ensures unfed { is_output (op_under (state_of self.old [] [])) ≡ false →
+            out.new ≡ out.old }
         ensures kept { OnErr result
             ((self.new ≡ self.old) × (I.rest input.new ≡ I.rest input.old)) }
         ensures limits { self.new.limits ≡ self.old.limits }
-        ensures input { IsUsed (I.rest input.old) (I.rest input.new)
-            (I.faults input.old) (I.faults input.new) (result ≡ Err Stop.ReadFault) }
-        ensures out { IsUsed (O.written out.old) (O.written out.new)
-            (O.faults out.old) (O.faults out.new) (result ≡ Err Stop.WriteFault) }
+        ensures whole { IsWhole self.new }
+        ensures input { IsAsked I.Source input.old input.new (result ≡ Err Stop.ReadFault) }
+        ensures out { IsFed O.Sink out.old out.new (result ≡ Err Stop.WriteFault) }
     {
         if self.is_halted() {
+            self.stays_whole();
             return Ok(Turn::Halted);
         }
-        self.step(input, out)
+        let turn = self.step(input, out);
+        self.stays_whole();
+        turn
     }
 
     /// Up to this many cycles: until the machine has halted, or one cycle fails. `Budget` exactly where
@@ -442,28 +464,36 @@ impl Machine {
     /// else `Budget`. After a fault the machine stands as before that cycle, and the cycles before it
     /// stay made.
     /// See "Runs" in docs/MACHINE.md.
+    #[inline(never)]
     pub fn run<I: Source, O: Sink>(&mut self, input: &mut I, out: &mut O, cycles: u64) -> Stop
         requires { self.old.cycles + cycles < 2 ^ 64 }
-        ensures run { Leads (MayStandIn self.old (I.rest input.old) (O.written out.old))
-            (MayStandIn self.new (I.rest input.new) (O.written out.new))
+        ensures run { let seen = seen_by I.Source O.Sink in
+            GoesFromTo (seen self.old input.old out.old) (seen self.new input.new out.new)
             (λ s t. RunEnds cycles self.old self.new s t result) }
         ensures counted { self.new.cycles ≤ self.old.cycles + cycles }
         ensures limits { self.new.limits ≡ self.old.limits }
-        ensures input { IsUsed (I.rest input.old) (I.rest input.new)
-            (I.faults input.old) (I.faults input.new) (result ≡ Stop.ReadFault) }
-        ensures out { IsUsed (O.written out.old) (O.written out.new)
-            (O.faults out.old) (O.faults out.new) (result ≡ Stop.WriteFault) }
+        ensures whole { IsWhole self.new }
+        ensures input { IsAsked I.Source input.old input.new (result ≡ Stop.ReadFault) }
+        ensures out { IsFed O.Sink out.old out.new (result ≡ Stop.WriteFault) }
     {
         if self.is_halted() {
+            self.stays_whole();
             return Stop::Halted;
         }
         for _ in 0..cycles {
             match self.step(input, out) {
                 Ok(Turn::Running) => {}
-                Ok(Turn::Halted) => return Stop::Halted,
-                Err(stop) => return stop,
+                Ok(Turn::Halted) => {
+                    self.stays_whole();
+                    return Stop::Halted;
+                }
+                Err(stop) => {
+                    self.stays_whole();
+                    return stop;
+                }
             }
         }
+        self.stays_whole();
         Stop::Budget
     }
 }

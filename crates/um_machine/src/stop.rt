@@ -1,7 +1,7 @@
 //! Why a machine stops.
 
 ghost use Rattle.std.specs.Prelude.{◌≡◌};
-ghost use Rattle.um_machine.specs.Stops.{name_of};
+ghost use Rattle.um_machine.specs.Stops.{stop_name};
 
 /// Whether a machine goes on.
 #[derive(Clone, Copy, PartialEq, Eq, Debug, Drop)]
@@ -57,7 +57,7 @@ pub enum Stop {
 impl Stop {
     /// The name of the variant, as it is printed. Takes no memory.
     pub fn name(&self) -> &'static str
-        ensures { result.now ≡ name_of self.now }
+        ensures { result.now ≡ stop_name self.now }
     {
         match self {
             Stop::Halted => "Halted",

@@ -1,5 +1,5 @@
 use Rattle.std.proofs.Common.{subst}
-use Rattle.um_machine.specs.Core.{IsWhole}
+use Rattle.um_machine.specs.MachineView.{IsWhole}
 use Rattle.um_machine.proofs.Whole.{whole_of}
 use Rattle.um_machine.proofs.machine.Machine.live.Goals as goal
 

@@ -2,20 +2,20 @@ use Rattle.std.proofs.Common.{◌≡◌, ◌+◌, [], refl, sym, subst, ◌∙�
 use Rattle.std.specs.Prelude.{Ok}
 use Rattle.um_word.specs.Table.{op_under}
 use Rattle.um_machine.specs.declared.stop.Stop.TheVariants.{Halted, Budget}
-use Rattle.um_machine.specs.Core.{state_of}
-use Rattle.um_machine.specs.Rows.{rest_before}
-use Rattle.um_machine.proofs.Rests.{some_rest, some_held}
+use Rattle.um_machine.specs.MachineView.{state_of}
+use Rattle.um_machine.specs.inner.OperatorCalls.{rest_before}
 use Rattle.um_machine.proofs.Cycles.{Made, made_more, still_running, now_halted}
-use Rattle.um_machine.proofs.Ends.{led, halted_end, budget_end, failed_end}
+use Rattle.um_machine.proofs.Ends.{sent_by, halted_end, budget_end, failed_end}
 use Rattle.um_machine.proofs.machine.Machine.run.Goals as goal
 
 pub returns-then-is_halted-clause-run : goal.returns-then-is_halted-clause-run
-returns-then-is_halted-clause-run g c =
-    let rest = some_rest (g.I.Source.rest c.args.input.now) in
-    let held = some_held (g.O.Sink.written c.args.out.now) in
-    led c.args.cycles c.args.self.now c.args.self.now rest.0 rest.0 held.0 _ _ _ _ Halted rest.1 held.1 rest.1
-    (halted_end 0 c.args.cycles c.args.self.now c.args.self.now (state_of c.args.self.now rest.0 held.0) rest.0 _ (omega arith)
-    (record { sent = held.0; holds = held.1; stands = refl }) (sym c.is_halted.ensures ∙ c.if-is_halted.true))
+returns-then-is_halted-clause-run g c left may = record {
+  rest = left;
+  may = may;
+  sends = λ held holds. sent_by c.args.cycles _ _ left left held Halted
+      (halted_end 0 c.args.cycles c.args.self.now c.args.self.now (state_of c.args.self.now left held) left _ (omega arith)
+      (record { sent = held; holds = holds; stands = refl }) (sym c.is_halted.ensures ∙ c.if-is_halted.true));
+}
 
 pub loop-init : goal.loop-init
 loop-init g c = record {
@@ -30,27 +30,29 @@ loop-init g c = record {
 }
 
 pub returns-in-Ok-Halted-clause-run : goal.returns-in-Ok-Halted-clause-run
-returns-in-Ok-Halted-clause-run g c =
-    let left = some_rest (g.I.Source.rest c.step.new.input) in
-    let held = some_held (g.O.Sink.written c.args.out.now) in
-    let rest = rest_before (Ok c.in-Ok-Halted.field-0) (op_under (state_of c.loop.self [] [])) (g.I.Source.rest c.loop.input) c.step.new.self.registers left.0 in
-    let m = c.loop.invariant.made.1 rest (c.in-Ok-Halted.ensures.rest left.0 left.1) in
-    let made = m.1 held.0 held.1 in
-    led c.args.cycles c.args.self.now c.step.new.self (c.loop.invariant.made.0 rest) left.0 held.0 _ _ _ _ Halted m.0 held.1 left.1
-    (halted_end (c.loop.counter + 1) c.args.cycles c.args.self.now c.step.new.self _ left.0 _ (omega (arith, c.loop-test.true))
-    (made_more c.loop.counter c.args.self.now _ c.loop.self c.step.new.self rest left.0 _ _ c.in-Ok-Halted.field-0 made c.loop.invariant.running c.loop.invariant.limits
-    c.in-Ok-Halted.ensures.identifiers (c.in-Ok-Halted.ensures.row left.0 left.1 made.sent made.holds))
-    (now_halted c.step.new.self (rw c.in-Ok-Halted.field-0-is at c.in-Ok-Halted.ensures.turn)))
+returns-in-Ok-Halted-clause-run g c left may =
+    let rest = rest_before (Ok c.in-Ok-Halted.field-0) (op_under (state_of c.loop.self [] [])) (g.I.Source.rest c.loop.input) c.step.new.self.registers left in
+    let m = c.loop.invariant.made.1 rest (c.in-Ok-Halted.ensures.rest left may) in
+    record {
+      rest = c.loop.invariant.made.0 rest;
+      may = m.0;
+      sends = λ held holds. sent_by c.args.cycles _ _ _ left held Halted
+          (halted_end (c.loop.counter + 1) c.args.cycles c.args.self.now c.step.new.self _ left _ (omega (arith, c.loop-test.true))
+          (made_more c.loop.counter c.args.self.now _ c.loop.self c.step.new.self rest left _ _ c.in-Ok-Halted.field-0 (m.1 held holds) c.loop.invariant.running c.loop.invariant.limits
+          c.in-Ok-Halted.ensures.identifiers (c.in-Ok-Halted.ensures.row left may (m.1 held holds).sent (m.1 held holds).holds))
+          (now_halted c.step.new.self (rw c.in-Ok-Halted.field-0-is at c.in-Ok-Halted.ensures.turn)));
+    }
 
 pub returns-in-Err-clause-run : goal.returns-in-Err-clause-run
-returns-in-Err-clause-run g c =
-    let left = some_rest (g.I.Source.rest c.step.new.input) in
-    let held = some_held (g.O.Sink.written c.args.out.now) in
-    let m = c.loop.invariant.made.1 left.0 (c.in-Err.ensures.rest left.0 left.1) in
-    let made = m.1 held.0 held.1 in
-    led c.args.cycles c.args.self.now c.step.new.self (c.loop.invariant.made.0 left.0) left.0 held.0 _ _ _ _ c.in-Err.stop m.0 held.1 left.1
-    (failed_end c.loop.counter c.args.cycles c.args.self.now c.loop.self c.step.new.self _ left.0 _ _ c.in-Err.stop c.loop-test.true made c.loop.invariant.running c.loop.invariant.limits
-    c.in-Err.ensures.kept.0 (c.in-Err.ensures.row left.0 left.1 made.sent made.holds))
+returns-in-Err-clause-run g c left may =
+    let m = c.loop.invariant.made.1 left (c.in-Err.ensures.rest left may) in
+    record {
+      rest = c.loop.invariant.made.0 left;
+      may = m.0;
+      sends = λ held holds. sent_by c.args.cycles _ _ _ left held c.in-Err.stop
+          (failed_end c.loop.counter c.args.cycles c.args.self.now c.loop.self c.step.new.self _ left _ _ c.in-Err.stop c.loop-test.true (m.1 held holds) c.loop.invariant.running c.loop.invariant.limits
+          c.in-Err.ensures.kept.0 (c.in-Err.ensures.row left may (m.1 held holds).sent (m.1 held holds).holds));
+    }
 
 pub loop-preserved : goal.loop-preserved
 loop-preserved g c = record {
@@ -71,11 +73,13 @@ loop-preserved g c = record {
 }
 
 pub returns-clause-run : goal.returns-clause-run
-returns-clause-run g c =
-    let left = some_rest (g.I.Source.rest c.loop.input) in
-    let held = some_held (g.O.Sink.written c.args.out.now) in
-    let m = c.loop.invariant.made.1 left.0 left.1 in
+returns-clause-run g c left may =
+    let m = c.loop.invariant.made.1 left may in
     let whole : c.loop.counter ≡ c.args.cycles = omega (arith, c.loop-test.false, c.loop.auto.counter-end) in
-    led c.args.cycles c.args.self.now c.loop.self (c.loop.invariant.made.0 left.0) left.0 held.0 _ _ _ _ Budget m.0 held.1 left.1
-    (budget_end c.args.cycles c.args.self.now c.loop.self _ left.0 _
-    (subst (λ n. Made n c.args.self.now (state_of c.args.self.now (c.loop.invariant.made.0 left.0) held.0) c.loop.self left.0 (g.O.Sink.written c.loop.out)) whole (m.1 held.0 held.1)) c.loop.invariant.running)
+    record {
+      rest = c.loop.invariant.made.0 left;
+      may = m.0;
+      sends = λ held holds. sent_by c.args.cycles _ _ _ left held Budget
+          (budget_end c.args.cycles c.args.self.now c.loop.self _ left _
+          (subst (λ n. Made n c.args.self.now (state_of c.args.self.now (c.loop.invariant.made.0 left) held) c.loop.self left (g.O.Sink.written c.loop.out)) whole (m.1 held holds)) c.loop.invariant.running);
+    }

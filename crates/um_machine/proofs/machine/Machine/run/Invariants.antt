@@ -1,6 +1,6 @@
 use Rattle.std.proofs.Common.{◌≡◌, ◌+◌, ◌≤◌, ℕ, false, List}
 use Rattle.std.specs.Prelude.{is_some}
-use Rattle.um_machine.specs.Core.{state_of}
+use Rattle.um_machine.specs.MachineView.{state_of}
 use Rattle.um_machine.specs.Outside.{MayRest, MayHold}
 use Rattle.um_machine.proofs.Cycles.{Made}
 use Rattle.um_machine.proofs.machine.Machine.run.Given as goal

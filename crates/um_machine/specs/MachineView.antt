@@ -3,11 +3,12 @@ use Rattle.std.specs.Prelude.{ℕ, ◌≤◌, Bool, false, List, replicate, refl
 use Rattle.std.specs.Coded.{Coded, code_by, coded×, coded_ℕ, coded_list, coded_bool}
 use Rattle.std.specs.FinMap as map
 use Rattle.umix_base.specs.declared.limits.Limits.{Limits}
+use Rattle.array_store.specs.StoreView.{most_live_arrays, most_live_words}
 use Rattle.um_word.specs.State.{Arrays, State, IsWellFormed}
 use Rattle.um_word.specs.Rule.{Identifiers, IsOrderly, none_made}
 
 -- a state without the bytes of its input and its output, with the identifiers and the limits of its run
-pub record Core : Type 0 where
+pub record MachineView : Type 0 where
   pub registers : List ℕ
   pub finger : ℕ
   pub arrays : Arrays
@@ -17,7 +18,7 @@ pub record Core : Type 0 where
   pub halted : Bool
 
 -- the state of a machine with this rest of the input and this output
-abbrev pub state_of : Core → List ℕ → List ℕ → State
+abbrev pub state_of : MachineView → List ℕ → List ℕ → State
 state_of m rest out = record {
   registers = m.registers;
   finger = m.finger;
@@ -33,7 +34,7 @@ abbrev pub zero_array : List ℕ → Arrays
 zero_array words = map.insert map.empty 0 words
 
 -- the machine with which the run of these words begins
-abbrev pub machine_of : List ℕ → Limits → Core
+abbrev pub machine_of : List ℕ → Limits → MachineView
 machine_of words limits = record {
   registers = replicate 8 0;
   finger = 0;
@@ -44,8 +45,8 @@ machine_of words limits = record {
   halted = false;
 }
 
-abbrev pub core_code : Coded Core
-core_code =
+abbrev pub machine_code : Coded MachineView
+machine_code =
     code_by (List ℕ × (ℕ × (Arrays × ((ℕ × List ℕ) × ((ℕ × ℕ) × (ℕ × Bool))))))
     (coded× (coded_list coded_ℕ) (coded× coded_ℕ (coded× (map.code coded_ℕ (coded_list coded_ℕ)) (coded× (coded× coded_ℕ (coded_list coded_ℕ)) (coded× (coded× coded_ℕ coded_ℕ) (coded× coded_ℕ coded_bool))))))
     (λ m. (m.registers, (m.finger, (m.arrays, ((m.identifiers.made, m.identifiers.abandoned), ((m.limits.arrays, m.limits.words), (m.cycles, m.halted)))))))
@@ -62,8 +63,8 @@ core_code =
 
 -- What is true of every machine: its state is well formed, and its identifiers and arrays are those of the
 -- rule, within limits that are at most the greatest.
-pub record IsWhole (m : Core) : Type 0 where
+pub record IsWhole (m : MachineView) : Type 0 where
   pub well_formed : (rest out : List ℕ) → IsWellFormed (state_of m rest out)
   pub orderly : IsOrderly m.limits m.identifiers m.arrays
-  pub arrays_limit : m.limits.arrays ≤ 16777216
-  pub words_limit : m.limits.words ≤ 268435456
+  pub arrays_limit : m.limits.arrays ≤ most_live_arrays
+  pub words_limit : m.limits.words ≤ most_live_words

@@ -7,7 +7,7 @@ use Rattle.um_word.specs.Rule.{next_identifier, left_by}
 use Rattle.um_machine.specs.declared.stop.Turn.{Turn}
 use Rattle.um_machine.specs.declared.stop.Stop.{Stop}
 use Rattle.um_machine.specs.declared.stop.Stop.TheVariants.{ReadFault, WriteFault}
-use Rattle.um_machine.specs.Core.{Core, state_of}
+use Rattle.um_machine.specs.MachineView.{MachineView, state_of}
 use Rattle.um_machine.specs.Outside.{MayHold}
 use Rattle.um_machine.specs.Stops.{stop_of, turn_of, MayFail}
 
@@ -18,11 +18,11 @@ Wrote stop nothing byte = nothing
 
 -- An answer and what it leaves, by what the cycle comes to: the machine, the rest of the input, and what
 -- the sink held before and holds now.
-abbrev pub Meets : Option Op → Core → List ℕ → Option (List ℕ) → Option (List ℕ) → Next → Result Turn Stop → Type 0
-Meets op new left before now (Goes t) (Ok turn) = (turn ≡ turn_of t.halted) × (t ≡ state_of new left t.out) × MayHold now t.out
-Meets op new left before now (Goes t) (Err stop) = MayFail new.registers op stop × Wrote stop (now ≡ before) (MayHold now t.out)
-Meets op new left before now (Stops fault) (Ok turn) = ⊥
-Meets op new left before now (Stops fault) (Err stop) = (stop ≡ stop_of fault) × (now ≡ before)
+abbrev pub AnswersRow : Option Op → MachineView → List ℕ → Option (List ℕ) → Option (List ℕ) → Next → Result Turn Stop → Type 0
+AnswersRow op new left before now (Goes t) (Ok turn) = (turn ≡ turn_of t.halted) × (t ≡ state_of new left t.out) × MayHold now t.out
+AnswersRow op new left before now (Goes t) (Err stop) = MayFail new.registers op stop × Wrote stop (now ≡ before) (MayHold now t.out)
+AnswersRow op new left before now (Stops fault) (Ok turn) = ⊥
+AnswersRow op new left before now (Stops fault) (Err stop) = (stop ≡ stop_of fault) × (now ≡ before)
 
 -- the rest of a source before a call, by the rest after it: at an Input of one that doesn't tell, also what
 -- came into the register
@@ -32,16 +32,16 @@ rest_before (Ok turn) (Some (Input c)) (Some told) registers left = told
 rest_before result op before registers left = left
 
 -- an answer and the machine that it leaves, of a call that asks neither the source nor the sink
-abbrev pub MeetsAlone : Op → Core → (rest out : List ℕ) → Next → Result (Unit {0}) Stop → Type 0
-MeetsAlone op new rest out (Goes t) (Ok done) = t ≡ state_of new rest out
-MeetsAlone op new rest out (Goes t) (Err stop) = MayFail new.registers (Some op) stop
-MeetsAlone op new rest out (Stops fault) (Ok done) = ⊥
-MeetsAlone op new rest out (Stops fault) (Err stop) = stop ≡ stop_of fault
+abbrev pub AnswersRowAlone : Op → MachineView → (rest out : List ℕ) → Next → Result (Unit {0}) Stop → Type 0
+AnswersRowAlone op new rest out (Goes t) (Ok done) = t ≡ state_of new rest out
+AnswersRowAlone op new rest out (Goes t) (Err stop) = MayFail new.registers (Some op) stop
+AnswersRowAlone op new rest out (Stops fault) (Ok done) = ⊥
+AnswersRowAlone op new rest out (Stops fault) (Err stop) = stop ≡ stop_of fault
 
 -- what the call for one operator that asks neither of them answers and leaves
-pub record Comes (op : Op) (old new : Core) (result : Result (Unit {0}) Stop) : Type 0 where
+pub record DoesRow (op : Op) (old new : MachineView) (result : Result (Unit {0}) Stop) : Type 0 where
   pub row : (rest out : List ℕ) →
-      MeetsAlone op new rest out (row op old.limits (next_identifier old.identifiers) (moved (state_of old rest out))) result
+      AnswersRowAlone op new rest out (row op old.limits (next_identifier old.identifiers) (moved (state_of old rest out))) result
   pub identifiers : OnOk result (new.identifiers ≡ left_by (Some op) (state_of old [] []) old.identifiers)
   pub limits : new.limits ≡ old.limits
   pub halted : new.halted ≡ old.halted
