@@ -6,7 +6,7 @@ use Rattle.std.specs.HashMap.{get}
 use Rattle.std.proofs.lemmas.Slice.Eq.{bytes_eq-Decides}
 use Rattle.um_asm.specs.declared.labels.Name.{Name}
 use Rattle.um_asm.specs.declared.labels.Definition.{Definition}
-use Rattle.um_asm.specs.Meanings.{Definitions, meaning_in, named_by, Adds}
+use Rattle.um_asm.specs.inner.Definitions.{Definitions, meaning_in, named_by, Adds}
 
 -- a name as the code keeps it, at any place in memory
 abbrev key_of : Option ℕ → List ℕ → Name

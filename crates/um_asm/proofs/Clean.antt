@@ -6,8 +6,8 @@ use Rattle.std.specs.Option.{option_map}
 use Rattle.std.proofs.lemmas.List.{reverse-append, reverse-reverse, append-nil, length-reverse}
 use Rattle.um_asm.specs.declared.line.Line.{Line}
 use Rattle.um_asm.specs.declared.line.Line.TheVariants.{Code}
-use Rattle.um_asm.specs.Tokens.{before, after, is_space, is_printable, trimmed_start, trimmed_end, trimmed}
-use Rattle.um_asm.specs.Lines.{operands_in, array_at, end_at, statement_of, unlabelled_at, line_at}
+use Rattle.um_asm.specs.Tokens.{before, behind_byte, is_space, is_printable, trimmed_start, trimmed_end, trimmed}
+use Rattle.um_asm.specs.Lines.{operands_in, array_line, end_at, statement_of, unlabelled_at, parsed_line}
 use Rattle.um_asm.specs.Listing.{more_operands}
 use Rattle.um_asm.proofs.Cuts.{before_none, operands-cut}
 
@@ -66,12 +66,12 @@ drop_front (b ∷ bs) mark rest = drop_front bs mark rest
 pub before_mark : (mark : ℕ) (text rest : List ℕ) → lacks mark text ≡ true → before mark (text ++ mark ∷ rest) ≡ text
 before_mark mark text rest h = rw (place_of mark text rest h) (take_front text (mark ∷ rest))
 
-pub after_mark : (mark : ℕ) (text rest : List ℕ) → lacks mark text ≡ true → after mark (text ++ mark ∷ rest) ≡ Some rest
+pub after_mark : (mark : ℕ) (text rest : List ℕ) → lacks mark text ≡ true → behind_byte mark (text ++ mark ∷ rest) ≡ Some rest
 after_mark mark text rest h =
     let inside : nat_lt (length text) (length (text ++ mark ∷ rest)) ≡ true = grind (arith, length-append text (mark ∷ rest)) in
     rw (place_of mark text rest h, inside, add-one) (ap Some (drop_front text mark rest))
 
-pub after_nothing : (mark : ℕ) (text : List ℕ) → lacks mark text ≡ true → after mark text ≡ None
+pub after_nothing : (mark : ℕ) (text : List ℕ) → lacks mark text ≡ true → behind_byte mark text ≡ None
 after_nothing mark text h =
     let outside : nat_lt (length text) (length text) ≡ false = grind arith in
     rw (no_place mark text h, outside) refl
@@ -165,11 +165,11 @@ end_well text front back e c = rw e (end_same front back c.some (lacks_of 32 no_
 -- what a word and its operands say
 abbrev pub read_as : List ℕ → List (List ℕ) → Option (Line (List ℕ))
 read_as word operands =
-    cond (bytes_eq word (codes ".array")) (array_at operands)
+    cond (bytes_eq word (codes ".array")) (array_line operands)
     (cond (bytes_eq word (codes ".end")) (end_at operands) (option_map (λ s. Code None (Some s)) (statement_of word operands)))
 
 -- a plain text is read as it is
-plain_line : (text : List ℕ) → list_all is_plain text ≡ true → trimmed text ≡ text → line_at text ≡ unlabelled_at text
+plain_line : (text : List ℕ) → list_all is_plain text ≡ true → trimmed text ≡ text → parsed_line text ≡ unlabelled_at text
 plain_line text plain same =
     let printable = all_weaker is_plain is_printable printable_of text plain in
     let uncommented = before_nothing 59 text (all_weaker is_plain (λ b. not (b == 59)) no_semicolon text plain) in
@@ -177,7 +177,7 @@ plain_line text plain same =
     rw (printable, uncommented, unlabelled, same) refl
 
 pub line_spaced : (word first : List ℕ) (others : List (List ℕ)) → Clean word → Clean first → AllByRecursion Clean others
-    → line_at (word ++ 32 ∷ (first ++ more_operands others)) ≡ read_as word (first ∷ others)
+    → parsed_line (word ++ 32 ∷ (first ++ more_operands others)) ≡ read_as word (first ∷ others)
 line_spaced word first others c d all =
     let rest = first ++ more_operands others in
     let text = word ++ 32 ∷ rest in
@@ -193,7 +193,7 @@ line_spaced word first others c d all =
     let some : (length text == 0) ≡ false = grind (arith, length-append word (32 ∷ rest)) in
     plain_line text plain whole ∙ rw (front, back, operands, some) refl
 
-pub line_alone : (word : List ℕ) → Clean word → line_at word ≡ read_as word []
+pub line_alone : (word : List ℕ) → Clean word → parsed_line word ≡ read_as word []
 line_alone word c =
     let plain : list_all is_plain word ≡ true = all_weaker is_clean is_plain plain_of word c.clean in
     let front = before_nothing 32 word (lacks_of 32 no_space word c) in

@@ -4,7 +4,7 @@ use Rattle.std.specs.List.{slice_split, position_or_len}
 use Rattle.std.specs.Str.Lines.{lines, lines_of_parts, strip_carriage_return}
 use Rattle.std.proofs.lemmas.List.{take_all}
 use Rattle.std.proofs.lemmas.List.Splits.{slice_split_first}
-use Rattle.um_asm.specs.Tokens.{before, after, trimmed}
+use Rattle.um_asm.specs.Tokens.{before, behind_byte, trimmed}
 use Rattle.um_asm.specs.Lines.{operands_in}
 
 -- the parts behind the first mark
@@ -23,13 +23,13 @@ uncut {X} p (x ∷ xs) e = by_first (uncut p xs) (p x) refl
         let rest : nat_lt (position_or_len p xs) (length xs) ≡ false = grind (arith, e, h) in
         rw (h, behind rest) refl
 
-pub cut_parts : (mark : ℕ) (text : List ℕ) → parts_in mark (Some text) ≡ before mark text ∷ parts_in mark (after mark text)
+pub cut_parts : (mark : ℕ) (text : List ℕ) → parts_in mark (Some text) ≡ before mark text ∷ parts_in mark (behind_byte mark text)
 cut_parts mark text = by_test (nat_lt (position_or_len p text) (length text)) refl
   where
     p : ℕ → Bool
     p = λ b. b == mark
 
-    by_test : (b : Bool) → nat_lt (position_or_len p text) (length text) ≡ b → parts_in mark (Some text) ≡ before mark text ∷ parts_in mark (after mark text)
+    by_test : (b : Bool) → nat_lt (position_or_len p text) (length text) ≡ b → parts_in mark (Some text) ≡ before mark text ∷ parts_in mark (behind_byte mark text)
     by_test true e =
         let inside : position_or_len p text < length text = grind (arith, e) in
         rw e (slice_split_first p text 0 inside)
@@ -37,14 +37,14 @@ cut_parts mark text = by_test (nat_lt (position_or_len p text) (length text)) re
         let all : length text ≤ position_or_len p text = grind (arith, e) in
         rw (e, take_all (position_or_len p text) text all) (uncut p text e)
 
-pub operands-cut : (text : List ℕ) → operands_in (Some text) ≡ trimmed (before 44 text) ∷ operands_in (after 44 text)
-operands-cut text = ap (map trimmed) (cut_parts 44 text) ∙ ap (λ parts. trimmed (before 44 text) ∷ parts) (by_case (after 44 text))
+pub operands-cut : (text : List ℕ) → operands_in (Some text) ≡ trimmed (before 44 text) ∷ operands_in (behind_byte 44 text)
+operands-cut text = ap (map trimmed) (cut_parts 44 text) ∙ ap (λ parts. trimmed (before 44 text) ∷ parts) (by_case (behind_byte 44 text))
   where
     by_case : (rest : Option (List ℕ)) → map trimmed (parts_in 44 rest) ≡ operands_in rest
     by_case None = refl
     by_case (Some rest) = refl
 
-pub before_none : (mark : ℕ) (text : List ℕ) → after mark text ≡ None → before mark text ≡ text
+pub before_none : (mark : ℕ) (text : List ℕ) → behind_byte mark text ≡ None → before mark text ≡ text
 before_none mark text none = by_test (nat_lt (position_or_len (λ b. b == mark) text) (length text)) refl
   where
     by_test : (b : Bool) → nat_lt (position_or_len (λ b. b == mark) text) (length text) ≡ b → before mark text ≡ text
@@ -57,12 +57,12 @@ before_none mark text none = by_test (nat_lt (position_or_len (λ b. b == mark) 
 more_lines : (x : List ℕ) (parts : List (List ℕ)) (y : List ℕ) (more : List (List ℕ)) → parts ≡ y ∷ more → lines_of_parts (x ∷ parts) ≡ strip_carriage_return x ∷ lines_of_parts parts
 more_lines x parts y more e = rw e refl
 
-pub lines_some : (text rest : List ℕ) → after 10 text ≡ Some rest → lines text ≡ strip_carriage_return (before 10 text) ∷ lines rest
+pub lines_some : (text rest : List ℕ) → behind_byte 10 text ≡ Some rest → lines text ≡ strip_carriage_return (before 10 text) ∷ lines rest
 lines_some text rest e =
     let parts : slice_split (λ b. b == 10) text ≡ before 10 text ∷ slice_split (λ b. b == 10) rest = cut_parts 10 text ∙ rw e refl in
     ap lines_of_parts parts ∙ more_lines (before 10 text) (slice_split (λ b. b == 10) rest) _ _ (cut_parts 10 rest)
 
-pub lines_none : (text : List ℕ) → after 10 text ≡ None → 0 < length text → lines text ≡ text ∷ []
+pub lines_none : (text : List ℕ) → behind_byte 10 text ≡ None → 0 < length text → lines text ≡ text ∷ []
 lines_none text e some =
     let parts : slice_split (λ b. b == 10) text ≡ text ∷ [] = cut_parts 10 text ∙ rw (e, before_none 10 text e) refl in
     let test : (length text == 0) ≡ false = grind (arith, some) in

@@ -21,11 +21,12 @@ use Rattle.um_asm.specs.declared.line.Line.{Line}
 use Rattle.um_asm.specs.declared.line.Line.TheVariants.{Code}
 use Rattle.um_asm.specs.declared.mnemonic.Mnemonic.{Mnemonic}
 use Rattle.um_asm.specs.declared.mnemonic.Mnemonic.TheVariants.{Cmov, Index, Amend, Add, Mul, Div, Nand, Halt, Alloc, Abandon, Out, In, Load, Set}
-use Rattle.um_asm.specs.Tokens.{before, after, register_at, value_at, is_numeral, is_printable}
-use Rattle.um_asm.specs.Mnemonics.{text_of}
-use Rattle.um_asm.specs.Lines.{line_at, content_at, size_of, are_hex_words}
+use Rattle.um_asm.specs.Tokens.{before, behind_byte, register_at, value_written, is_numeral, is_printable}
+use Rattle.um_asm.specs.Mnemonics.{mnemonic_text}
+use Rattle.um_asm.specs.Lines.{parsed_line, content_at, size_of, are_hex_words}
 use Rattle.um_asm.specs.Listing.{register_text, operator_text, hex_text, word_text, listing}
-use Rattle.um_asm.specs.Assembly.{Meaning, assembled, hex_words, lines_words, most_words, said_by, statement_words}
+use Rattle.um_word.specs.Scroll.{most_scroll_words}
+use Rattle.um_asm.specs.Assembly.{NameMeaning, assembled, hex_words, lines_words, said_by, statement_words}
 use Rattle.um_asm.specs.Scopes.{standing, all_standing, definitions, lookup}
 use Rattle.um_asm.proofs.Cuts.{lines_some}
 use Rattle.um_asm.proofs.Walking.{short_enough}
@@ -53,7 +54,7 @@ register_clean a small =
     let comma : ((48 + a) == 44) ≡ false = grind arith in
     record { some = omega arith; clean = rw (low, high, colon, semicolon, space, comma) refl }
 
-mnemonic_clean : (m : Mnemonic) → Clean (text_of m)
+mnemonic_clean : (m : Mnemonic) → Clean (mnemonic_text m)
 mnemonic_clean Cmov = record { some = omega arith; clean = refl }
 mnemonic_clean Index = record { some = omega arith; clean = refl }
 mnemonic_clean Amend = record { some = omega arith; clean = refl }
@@ -69,16 +70,16 @@ mnemonic_clean In = record { some = omega arith; clean = refl }
 mnemonic_clean Load = record { some = omega arith; clean = refl }
 mnemonic_clean Set = record { some = omega arith; clean = refl }
 
-one_line : (m : Mnemonic) (c : ℕ) → c < 8 → line_at (text_of m ++ 32 ∷ (register_text c ++ [])) ≡ read_as (text_of m) (register_text c ∷ [])
-one_line m c small = line_spaced (text_of m) (register_text c) [] (mnemonic_clean m) (register_clean c small) tt
+one_line : (m : Mnemonic) (c : ℕ) → c < 8 → parsed_line (mnemonic_text m ++ 32 ∷ (register_text c ++ [])) ≡ read_as (mnemonic_text m) (register_text c ∷ [])
+one_line m c small = line_spaced (mnemonic_text m) (register_text c) [] (mnemonic_clean m) (register_clean c small) tt
 
-two_line : (m : Mnemonic) (b c : ℕ) → b < 8 → c < 8 → line_at (text_of m ++ 32 ∷ (register_text b ++ (44 ∷ 32 ∷ (register_text c ++ [])))) ≡ read_as (text_of m) (register_text b ∷ register_text c ∷ [])
-two_line m b c sb sc = line_spaced (text_of m) (register_text b) (register_text c ∷ []) (mnemonic_clean m) (register_clean b sb) (register_clean c sc, tt)
+two_line : (m : Mnemonic) (b c : ℕ) → b < 8 → c < 8 → parsed_line (mnemonic_text m ++ 32 ∷ (register_text b ++ (44 ∷ 32 ∷ (register_text c ++ [])))) ≡ read_as (mnemonic_text m) (register_text b ∷ register_text c ∷ [])
+two_line m b c sb sc = line_spaced (mnemonic_text m) (register_text b) (register_text c ∷ []) (mnemonic_clean m) (register_clean b sb) (register_clean c sc, tt)
 
 three_line : (m : Mnemonic) (a b c : ℕ) → a < 8 → b < 8 → c < 8
-    → line_at (text_of m ++ 32 ∷ (register_text a ++ (44 ∷ 32 ∷ (register_text b ++ (44 ∷ 32 ∷ (register_text c ++ [])))))) ≡ read_as (text_of m) (register_text a ∷ register_text b ∷ register_text c ∷ [])
+    → parsed_line (mnemonic_text m ++ 32 ∷ (register_text a ++ (44 ∷ 32 ∷ (register_text b ++ (44 ∷ 32 ∷ (register_text c ++ [])))))) ≡ read_as (mnemonic_text m) (register_text a ∷ register_text b ∷ register_text c ∷ [])
 three_line m a b c sa sb sc =
-    line_spaced (text_of m) (register_text a) (register_text b ∷ register_text c ∷ []) (mnemonic_clean m) (register_clean a sa) (register_clean b sb, (register_clean c sc, tt))
+    line_spaced (mnemonic_text m) (register_text a) (register_text b ∷ register_text c ∷ []) (mnemonic_clean m) (register_clean a sa) (register_clean b sb, (register_clean c sc, tt))
 
 below : (a b : ℕ) → a < b → nat_lt a b ≡ true
 below a b h = grind arith
@@ -143,17 +144,17 @@ abbrev pub stated : Op → Statement (List ℕ)
 stated (op.Set a value) = SetTo a (Decimal (decimal value))
 stated operator = Operator operator
 
-set_line : (a value : ℕ) → a < 8 → value < 2 ^ 25 → line_at (operator_text (op.Set a value)) ≡ code (SetTo a (Decimal (decimal value)))
+set_line : (a value : ℕ) → a < 8 → value < 2 ^ 25 → parsed_line (operator_text (op.Set a value)) ≡ code (SetTo a (Decimal (decimal value)))
 set_line a value small fits =
     let numeral = decimal_is_IsNumeral value (omega arith) in
     let clean = digits_clean (decimal value) numeral.0.1 in
     let token : Clean (decimal value) = record { some = numeral.0.0; clean = clean.0 } in
     let some : nat_lt 0 (length (decimal value)) ≡ true = below 0 (length (decimal value)) numeral.0.0 in
     let number : is_numeral 10 (decimal value) ≡ true = and_both (nat_lt 0 (length (decimal value))) (list_all (λ b. is_digit b 10) (decimal value)) some clean.1 in
-    let read : value_at (decimal value) ≡ Some (Decimal (decimal value)) = rw number refl in
-    line_spaced (text_of Set) (register_text a) (decimal value ∷ []) (mnemonic_clean Set) (register_clean a small) (token, tt) ∙ rw (register_read a small, read) refl
+    let read : value_written (decimal value) ≡ Some (Decimal (decimal value)) = rw number refl in
+    line_spaced (mnemonic_text Set) (register_text a) (decimal value ∷ []) (mnemonic_clean Set) (register_clean a small) (token, tt) ∙ rw (register_read a small, read) refl
 
-operator_line : (o : Op) → IsEncodable o → line_at (operator_text o) ≡ code (stated o)
+operator_line : (o : Op) → IsEncodable o → parsed_line (operator_text o) ≡ code (stated o)
 operator_line (op.Move a b c) (ha, hb, hc) = three_line Cmov a b c ha hb hc ∙ rw (register_read a ha, register_read b hb, register_read c hc) refl
 operator_line (op.Index a b c) (ha, hb, hc) = three_line Index a b c ha hb hc ∙ rw (register_read a ha, register_read b hb, register_read c hc) refl
 operator_line (op.Amend a b c) (ha, hb, hc) = three_line Amend a b c ha hb hc ∙ rw (register_read a ha, register_read b hb, register_read c hc) refl
@@ -161,7 +162,7 @@ operator_line (op.Add a b c) (ha, hb, hc) = three_line Add a b c ha hb hc ∙ rw
 operator_line (op.Mul a b c) (ha, hb, hc) = three_line Mul a b c ha hb hc ∙ rw (register_read a ha, register_read b hb, register_read c hc) refl
 operator_line (op.Div a b c) (ha, hb, hc) = three_line Div a b c ha hb hc ∙ rw (register_read a ha, register_read b hb, register_read c hc) refl
 operator_line (op.Nand a b c) (ha, hb, hc) = three_line Nand a b c ha hb hc ∙ rw (register_read a ha, register_read b hb, register_read c hc) refl
-operator_line op.Halt fits = line_alone (text_of Halt) (mnemonic_clean Halt)
+operator_line op.Halt fits = line_alone (mnemonic_text Halt) (mnemonic_clean Halt)
 operator_line (op.Alloc b c) (hb, hc) = two_line Alloc b c hb hc ∙ rw (register_read b hb, register_read c hc) refl
 operator_line (op.Abandon c) hc = one_line Abandon c hc ∙ rw (register_read c hc) refl
 operator_line (op.Out c) hc = one_line Out c hc ∙ rw (register_read c hc) refl
@@ -172,7 +173,7 @@ operator_line (op.Set a value) (small, fits) = set_line a value small fits
 at_most : (a b : ℕ) → a ≤ b → nat_le a b ≡ true
 at_most a b h = grind arith
 
-operator_words : (meaning : Meaning) (n : ℕ) (o : Op) → IsEncodable o → statement_words meaning n None (stated o) ≡ Ok (encode_op o ∷ [])
+operator_words : (meaning : NameMeaning) (n : ℕ) (o : Op) → IsEncodable o → statement_words meaning n None (stated o) ≡ Ok (encode_op o ∷ [])
 operator_words meaning n (op.Move a b c) fits = refl
 operator_words meaning n (op.Index a b c) fits = refl
 operator_words meaning n (op.Amend a b c) fits = refl
@@ -279,14 +280,14 @@ word_digits word small =
 hex_right : (word : ℕ) → Digits word → are_hex_words (digits_of word) ≡ true
 hex_right word d = rw (d.eight, d.digits) refl
 
-hex_line : (word : ℕ) → Digits word → line_at (hex_text word) ≡ code (Hex (digits_of word))
+hex_line : (word : ℕ) → Digits word → parsed_line (hex_text word) ≡ code (Hex (digits_of word))
 hex_line word d =
     let token : Clean (digits_of word) = record { some = omega (arith, d.eight); clean = d.clean } in
     let directive : Clean (codes ".hex") = record { some = omega arith; clean = refl } in
     let same : hex_text word ≡ codes ".hex" ++ 32 ∷ (digits_of word ++ []) = rw (append-nil (digits_of word)) refl in
-    let read : line_at (codes ".hex" ++ 32 ∷ (digits_of word ++ [])) ≡ read_as (codes ".hex") (digits_of word ∷ []) = line_spaced (codes ".hex") (digits_of word) [] directive token tt in
+    let read : parsed_line (codes ".hex" ++ 32 ∷ (digits_of word ++ [])) ≡ read_as (codes ".hex") (digits_of word ∷ []) = line_spaced (codes ".hex") (digits_of word) [] directive token tt in
     let shown : read_as (codes ".hex") (digits_of word ∷ []) ≡ code (Hex (digits_of word)) = rw (hex_right word d) refl in
-    ap line_at same ∙ (read ∙ shown)
+    ap parsed_line same ∙ (read ∙ shown)
 
 hex_read : (word : ℕ) → Digits word → hex_words (digits_of word) ≡ word ∷ []
 hex_read word d =
@@ -318,8 +319,8 @@ decoded word o e =
 -- what a line of a listing says
 pub record Says (word : ℕ) (line : List ℕ) : Type 0 where
   pub statement : Statement (List ℕ)
-  pub line_is : line_at line ≡ code statement
-  pub words : (meaning : Meaning) (n : ℕ) → statement_words meaning n None statement ≡ Ok (word ∷ [])
+  pub line_is : parsed_line line ≡ code statement
+  pub words : (meaning : NameMeaning) (n : ℕ) → statement_words meaning n None statement ≡ Ok (word ∷ [])
 
 says_hex : (word : ℕ) → word < 2 ^ 32 → Says word (hex_text word)
 says_hex word small =
@@ -339,10 +340,10 @@ says word small = by_operator (decode_word word) refl
     by_operator None e = says_hex word small
     by_operator (Some o) e = by_platter o (decoded word o e) (encode_op o == word) refl
 
-printable_if_read : (line : List ℕ) (statement : Statement (List ℕ)) → line_at line ≡ code statement → list_all is_printable line ≡ true
+printable_if_read : (line : List ℕ) (statement : Statement (List ℕ)) → parsed_line line ≡ code statement → list_all is_printable line ≡ true
 printable_if_read line statement e = by_test (list_all is_printable line) e
   where
-    by_test : (b : Bool) → cond b (content_at (before 59 line) (after 58 (before 59 line))) None ≡ code statement → b ≡ true
+    by_test : (b : Bool) → cond b (content_at (before 59 line) (behind_byte 58 (before 59 line))) None ≡ code statement → b ≡ true
     by_test true h = refl
     by_test false h = cc
 
@@ -375,7 +376,7 @@ line_first line rest all =
     lines_some (line ++ 10 ∷ rest) rest (after_mark 10 line rest feeds) ∙ rw (before_mark 10 line rest feeds, kept line all) refl
 
 -- a listing's lines say the words
-listed : (meaning : Meaning) (words : List ℕ) (number place : ℕ) → AllByRecursion (λ word. word < 2 ^ 32) words
+listed : (meaning : NameMeaning) (words : List ℕ) (number place : ℕ) → AllByRecursion (λ word. word < 2 ^ 32) words
     → lines_words meaning (standing number None place (said_by (listing words))) ≡ Ok words
 listed meaning [] number place all = refl
 listed meaning (word ∷ words) number place (small, all) =
@@ -384,10 +385,10 @@ listed meaning (word ∷ words) number place (small, all) =
     let printable = printable_if_read line here.statement here.line_is in
     let seam : listing (word ∷ words) ≡ line ++ 10 ∷ listing words = simp append_assoc in
     let first : said_by (listing (word ∷ words)) ≡ code here.statement ∷ said_by (listing words) =
-    ap said_by seam ∙ (ap (map line_at) (line_first line (listing words) printable) ∙ rw here.line_is refl) in
+    ap said_by seam ∙ (ap (map parsed_line) (line_first line (listing words) printable) ∙ rw here.line_is refl) in
     let rest = listed meaning words (number + 1) (place + size_of (code here.statement)) all in
     rw (first, here.words meaning number, rest) refl
 
-pub listing_assembled : (words : List ℕ) → AllByRecursion (λ word. word < 2 ^ 32) words → length words ≤ most_words → assembled (listing words) ≡ Ok words
+pub listing_assembled : (words : List ℕ) → AllByRecursion (λ word. word < 2 ^ 32) words → length words ≤ most_scroll_words → assembled (listing words) ≡ Ok words
 listing_assembled words all short =
     rw (listed (lookup (definitions (all_standing (said_by (listing words))))) words 1 0 all) (short_enough words short)

@@ -6,8 +6,8 @@ use Rattle.um_asm.specs.declared.line.Line.TheVariants.{Code, Array, End}
 use Rattle.um_asm.specs.declared.position.Block.{Block}
 use Rattle.um_asm.specs.Lines.{size_of}
 use Rattle.um_asm.specs.Scopes.{Said, Named, standing, definitions, defined_by, defines, lookup, is_end, is_ended, words_until_end, in_block, block_after}
-use Rattle.um_asm.specs.Parts.{IsBehind, unended_from, said_in}
-use Rattle.um_asm.specs.Meanings.{known_by}
+use Rattle.um_asm.specs.inner.Parts.{IsBehind, unended_from, said_in}
+use Rattle.um_asm.specs.inner.Definitions.{known_by}
 
 -- the block's own definition, which is known where it ends
 abbrev pub closing : Option (Block (List ℕ)) → (place : ℕ) → List Said → List Named

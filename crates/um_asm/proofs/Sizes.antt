@@ -9,9 +9,9 @@ use Rattle.um_asm.specs.declared.line.Statement.TheVariants.{Operator, SetTo, Wo
 use Rattle.um_asm.specs.declared.line.Line.TheVariants.{Code, Array, End}
 use Rattle.um_asm.specs.declared.mnemonic.Mnemonic.{Mnemonic}
 use Rattle.um_asm.specs.declared.mnemonic.Mnemonic.TheVariants.{Cmov, Index, Amend, Add, Mul, Div, Nand, Halt, Alloc, Abandon, Out, In, Load, Set}
-use Rattle.um_asm.specs.Tokens.{before, after, is_space, trimmed_start, trimmed, is_printable, is_label, register_at, value_at}
+use Rattle.um_asm.specs.Tokens.{before, behind_byte, is_space, trimmed_start, trimmed, is_printable, is_label, register_at, value_written}
 use Rattle.um_asm.specs.Mnemonics.{mnemonic_at}
-use Rattle.um_asm.specs.Lines.{operands_in, no_operand, one_operand, two_operands, one_register, two_registers, three_registers, are_hex_words, operator_at, word_at, hex_at, statement_at, labelled_at, array_at, end_at, unlabelled_at, content_at, line_at, size_of, ◌>>=◌}
+use Rattle.um_asm.specs.Lines.{operands_in, no_operand, one_operand, two_operands, one_register, two_registers, three_registers, are_hex_words, operator_at, word_at, hex_at, statement_at, labelled_at, array_line, end_at, unlabelled_at, content_at, parsed_line, size_of, ◌>>=◌}
 use Rattle.um_asm.proofs.Cuts.{operands-cut}
 
 trimmed_start-le : (text : List ℕ) → length (trimmed_start text) ≤ length text
@@ -31,7 +31,7 @@ trimmed-le text =
 before-le : (mark : ℕ) (text : List ℕ) → length (before mark text) ≤ length text
 before-le mark text = omega (arith, length-take (position_or_len (λ b. b == mark) text) text)
 
-after-le : (mark : ℕ) (text rest : List ℕ) → after mark text ≡ Some rest → length rest ≤ length text
+after-le : (mark : ℕ) (text rest : List ℕ) → behind_byte mark text ≡ Some rest → length rest ≤ length text
 after-le mark text rest e = by_place (position (λ b. b == mark) text) e
   where
     by_place : (place : Option ℕ) → option_map (λ at. drop (at + 1) text) place ≡ Some rest → length rest ≤ length text
@@ -64,14 +64,14 @@ operator_small operands Out = step (one_register operands) _ (λ r. omega arith)
 operator_small operands In = step (one_register operands) _ (λ r. omega arith)
 operator_small operands Load = step (two_registers operands) _ (λ r. omega arith)
 operator_small operands Set =
-    step (two_operands operands) _ (λ tokens. step (register_at tokens.0) _ (λ a. step (value_at tokens.1) _ (λ v. omega arith)))
+    step (two_operands operands) _ (λ tokens. step (register_at tokens.0) _ (λ a. step (value_written tokens.1) _ (λ v. omega arith)))
 
 word_small : (operands : List (List ℕ)) → words_of (word_at operands) ≤ 1
-word_small operands = step (one_operand operands) _ (λ token. step (value_at token) _ (λ v. omega arith))
+word_small operands = step (one_operand operands) _ (λ token. step (value_written token) _ (λ v. omega arith))
 
 hex_small : (rest : Option (List ℕ)) (most : ℕ) → ((text : List ℕ) → rest ≡ Some text → length text ≤ most) → words_of (hex_at (operands_in rest)) ≤ most
 hex_small None most less = omega arith
-hex_small (Some text) most less = rw (operands-cut text) (by_rest (after 44 text))
+hex_small (Some text) most less = rw (operands-cut text) (by_rest (behind_byte 44 text))
   where
     token : List ℕ
     token = trimmed (before 44 text)
@@ -94,7 +94,7 @@ statement_small text some = by_word (bytes_eq word (codes ".word"))
     word = before 32 text
 
     rest : Option (List ℕ)
-    rest = after 32 text
+    rest = behind_byte 32 text
 
     named : words_of (mnemonic_at word >>= operator_at (operands_in rest)) ≤ length text
     named = omega (arith, step (mnemonic_at word) (operator_at (operands_in rest)) (λ m. operator_small (operands_in rest) m))
@@ -123,7 +123,7 @@ labelled_small label text = by_empty (length text == 0) refl
         let some : 0 < length text = grind (arith, e) in
         rw (same (statement_at text)) (statement_small text some)
 
-array_small : (operands : List (List ℕ)) → size_of (array_at operands) ≡ 0
+array_small : (operands : List (List ℕ)) → size_of (array_line operands) ≡ 0
 array_small operands = by_name (one_operand operands)
   where
     by_label : (name : List ℕ) (b : Bool) → size_of (cond b (Some (Array name)) None) ≡ 0
@@ -145,17 +145,17 @@ unlabelled_small : (text : List ℕ) → size_of (unlabelled_at text) ≤ length
 unlabelled_small text = by_array (bytes_eq (before 32 text) (codes ".array"))
   where
     operands : List (List ℕ)
-    operands = operands_in (after 32 text)
+    operands = operands_in (behind_byte 32 text)
 
     by_end : (b : Bool) → size_of (cond b (end_at operands) (labelled_at None text)) ≤ length text
     by_end true = omega (arith, end_small operands)
     by_end false = labelled_small None text
 
-    by_array : (b : Bool) → size_of (cond b (array_at operands) (cond (bytes_eq (before 32 text) (codes ".end")) (end_at operands) (labelled_at None text))) ≤ length text
+    by_array : (b : Bool) → size_of (cond b (array_line operands) (cond (bytes_eq (before 32 text) (codes ".end")) (end_at operands) (labelled_at None text))) ≤ length text
     by_array true = omega (arith, array_small operands)
     by_array false = by_end (bytes_eq (before 32 text) (codes ".end"))
 
-content_small : (text : List ℕ) (rest : Option (List ℕ)) → after 58 text ≡ rest → size_of (content_at text rest) ≤ length text
+content_small : (text : List ℕ) (rest : Option (List ℕ)) → behind_byte 58 text ≡ rest → size_of (content_at text rest) ≤ length text
 content_small text None e = omega (arith, unlabelled_small (trimmed text), trimmed-le text)
 content_small text (Some rest) e = by_label (is_label (trimmed_start (before 58 text)))
   where
@@ -163,12 +163,12 @@ content_small text (Some rest) e = by_label (is_label (trimmed_start (before 58 
     by_label true = omega (arith, labelled_small (Some (trimmed_start (before 58 text))) (trimmed rest), trimmed-le rest, after-le 58 text rest e)
     by_label false = omega arith
 
-pub line_small : (line : List ℕ) → size_of (line_at line) ≤ length line
+pub line_small : (line : List ℕ) → size_of (parsed_line line) ≤ length line
 line_small line = by_printable (list_all is_printable line)
   where
     text : List ℕ
     text = before 59 line
 
-    by_printable : (b : Bool) → size_of (cond b (content_at text (after 58 text)) None) ≤ length line
-    by_printable true = omega (arith, content_small text (after 58 text) refl, before-le 59 line)
+    by_printable : (b : Bool) → size_of (cond b (content_at text (behind_byte 58 text)) None) ≤ length line
+    by_printable true = omega (arith, content_small text (behind_byte 58 text) refl, before-le 59 line)
     by_printable false = omega arith

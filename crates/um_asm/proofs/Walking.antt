@@ -5,13 +5,14 @@ use Rattle.std.specs.Option.{option_or}
 use Rattle.std.specs.Str.Lines.{lines}
 use Rattle.um_asm.specs.declared.position.Block.{Block}
 use Rattle.um_asm.specs.declared.labels.Definition.{Definition}
-use Rattle.um_asm.specs.Lines.{line_at, size_of}
+use Rattle.um_asm.specs.Lines.{parsed_line, size_of}
 use Rattle.um_asm.specs.Scopes.{Said, standing, all_standing, definitions, in_block, block_after, lookup}
 use Rattle.um_asm.specs.declared.fault.AsmFault.{AsmFault}
 use Rattle.um_asm.specs.declared.fault.AsmFault.TheVariants.{TooLong}
-use Rattle.um_asm.specs.Assembly.{Meaning, assembled, most_words, not_too_long, said_by, line_words, lines_words, ◌>>=◌}
-use Rattle.um_asm.specs.Parts.{IsBehind, unended_from, said_in}
-use Rattle.um_asm.specs.Meanings.{Definitions, meaning_in, known_by, Adds}
+use Rattle.um_word.specs.Scroll.{most_scroll_words}
+use Rattle.um_asm.specs.Assembly.{NameMeaning, assembled, not_too_long, said_by, line_words, lines_words, ◌>>=◌}
+use Rattle.um_asm.specs.inner.Parts.{IsBehind, unended_from, said_in}
+use Rattle.um_asm.specs.inner.Definitions.{Definitions, meaning_in, known_by, Adds}
 use Rattle.um_asm.proofs.Scoping.{coming, coming_step, said_same}
 
 or_assoc : (a b c : Option Definition) → option_or (option_or a b) c ≡ option_or a (option_or b c)
@@ -19,11 +20,11 @@ or_assoc None b c = refl
 or_assoc (Some a) b c = refl
 
 -- the first line, read
-pub said_first : (rest line behind : List ℕ) (said : Said) → lines rest ≡ line ∷ lines behind → said ≡ line_at line → said_by rest ≡ said ∷ said_by behind
-said_first rest line behind said e same = ap (map line_at) e ∙ rw same refl
+pub said_first : (rest line behind : List ℕ) (said : Said) → lines rest ≡ line ∷ lines behind → said ≡ parsed_line line → said_by rest ≡ said ∷ said_by behind
+said_first rest line behind said e same = ap (map parsed_line) e ∙ rw same refl
 
 -- what is known and what comes stay the same together
-pub walk_known : (old new : Definitions) (number place number' place' : ℕ) (block block' : Option (Block (List ℕ))) (line : Said) (rest more : List Said) (all : Meaning)
+pub walk_known : (old new : Definitions) (number place number' place' : ℕ) (block block' : Option (Block (List ℕ))) (line : Said) (rest more : List Said) (all : NameMeaning)
     → rest ≡ line ∷ more → number' ≡ number + 1 → block' ≡ block_after number place block line → place' ≡ place + size_of line → IsBehind place block
     → Adds old new (known_by number block place line)
     → ((scope : Option ℕ) (name : List ℕ) → option_or (meaning_in old scope name) (lookup (coming number block place rest) scope name) ≡ all scope name)
@@ -50,7 +51,7 @@ prepended_twice old pushed (Ok more) = rw append_assoc refl
 prepended_twice old pushed (Err fault) = refl
 
 -- the line's words go to those before it
-pub walk_words : (meaning : Meaning) (old new pushed : List ℕ) (unended : Option ℕ) (number place number' place' : ℕ) (block block' : Option (Block (List ℕ))) (line : Said) (rest more : List Said) (all : Result (List ℕ) AsmFault)
+pub walk_words : (meaning : NameMeaning) (old new pushed : List ℕ) (unended : Option ℕ) (number place number' place' : ℕ) (block block' : Option (Block (List ℕ))) (line : Said) (rest more : List Said) (all : Result (List ℕ) AsmFault)
     → rest ≡ line ∷ more → number' ≡ number + 1 → block' ≡ block_after number place block line → place' ≡ place + size_of line
     → unended ≡ unended_from number block place rest
     → line_words meaning number block (said_in unended number block line) ≡ Ok pushed → new ≡ old ++ pushed
@@ -64,7 +65,7 @@ walk_words meaning old new pushed unended number place number' place' block bloc
     rw (n, b, p, added) (prepended_twice old pushed later ∙ (ap (prepended old) (sym now) ∙ known))
 
 -- the line's fault is that of the text
-pub walk_fault : (meaning : Meaning) (old : List ℕ) (unended : Option ℕ) (number place : ℕ) (block : Option (Block (List ℕ))) (line : Said) (rest more : List Said) (all : Result (List ℕ) AsmFault) (fault : AsmFault)
+pub walk_fault : (meaning : NameMeaning) (old : List ℕ) (unended : Option ℕ) (number place : ℕ) (block : Option (Block (List ℕ))) (line : Said) (rest more : List Said) (all : Result (List ℕ) AsmFault) (fault : AsmFault)
     → rest ≡ line ∷ more → unended ≡ unended_from number block place rest
     → line_words meaning number block (said_in unended number block line) ≡ Err fault
     → prepended old (lines_words meaning (standing number block place rest)) ≡ all
@@ -76,18 +77,18 @@ walk_fault meaning old unended number place block line rest more all fault first
     sym known ∙ ap (prepended old) now
 
 -- names mean the same where each name does
-pub same_meaning : (a b : Meaning) → ((scope : Option ℕ) (name : List ℕ) → a scope name ≡ b scope name) → a ≡ b
+pub same_meaning : (a b : NameMeaning) → ((scope : Option ℕ) (name : List ℕ) → a scope name ≡ b scope name) → a ≡ b
 same_meaning a b same = fun_ext (λ scope. fun_ext (λ name. same scope name))
 
 -- a text's words and fault are those of its lines, where names mean what it defines
-pub assembled_by : (text : List ℕ) (meaning : Meaning) → ((scope : Option ℕ) (name : List ℕ) → meaning scope name ≡ lookup (definitions (all_standing (said_by text))) scope name)
+pub assembled_by : (text : List ℕ) (meaning : NameMeaning) → ((scope : Option ℕ) (name : List ℕ) → meaning scope name ≡ lookup (definitions (all_standing (said_by text))) scope name)
     → assembled text ≡ (lines_words meaning (all_standing (said_by text)) >>= not_too_long)
 assembled_by text meaning same =
     let lines = all_standing (said_by text) in
     ap (λ m. lines_words m lines >>= not_too_long) (sym (same_meaning meaning (lookup (definitions lines)) same))
 
-pub too_long : (words : List ℕ) → most_words < length words → not_too_long words ≡ Err TooLong
-too_long words long = let test : nat_le (length words) most_words ≡ false = grind (arith, long) in rw test refl
+pub too_long : (words : List ℕ) → most_scroll_words < length words → not_too_long words ≡ Err TooLong
+too_long words long = let test : nat_le (length words) most_scroll_words ≡ false = grind (arith, long) in rw test refl
 
-pub short_enough : (words : List ℕ) → length words ≤ most_words → not_too_long words ≡ Ok words
-short_enough words short = let test : nat_le (length words) most_words ≡ true = grind (arith, short) in rw test refl
+pub short_enough : (words : List ℕ) → length words ≤ most_scroll_words → not_too_long words ≡ Ok words
+short_enough words short = let test : nat_le (length words) most_scroll_words ≡ true = grind (arith, short) in rw test refl

@@ -4,5 +4,4 @@ pub mod Lines
 pub mod Scopes
 pub mod Assembly
 pub mod Listing
-pub mod Parts
-pub mod Meanings
+pub mod inner

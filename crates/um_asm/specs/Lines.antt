@@ -11,7 +11,7 @@ use Rattle.um_asm.specs.declared.line.Line.{Line}
 use Rattle.um_asm.specs.declared.line.Line.TheVariants.{Code, Array, End}
 use Rattle.um_asm.specs.declared.mnemonic.Mnemonic.{Mnemonic}
 use Rattle.um_asm.specs.declared.mnemonic.Mnemonic.TheVariants.{Cmov, Index, Amend, Add, Mul, Div, Nand, Halt, Alloc, Abandon, Out, In, Load, Set}
-use Rattle.um_asm.specs.Tokens.{before, after, trimmed_start, trimmed, is_printable, is_label, is_numeral, register_at, value_at}
+use Rattle.um_asm.specs.Tokens.{before, behind_byte, trimmed_start, trimmed, is_printable, is_label, is_numeral, register_at, value_written}
 use Rattle.um_asm.specs.Mnemonics.{mnemonic_at}
 
 -- the ? of the logic: the second step, if the first gave something
@@ -62,8 +62,8 @@ three_registers operands = do
   Some (a, b, c)
 
 -- operators without a register, and with one, two and three
-abbrev pub plain : Op → List (List ℕ) → Option (Statement (List ℕ))
-plain operator operands = no_operand operands >>= λ _. Some (Operator operator)
+abbrev pub no_register : Op → List (List ℕ) → Option (Statement (List ℕ))
+no_register operator operands = no_operand operands >>= λ _. Some (Operator operator)
 
 abbrev pub unary : (ℕ → Op) → List (List ℕ) → Option (Statement (List ℕ))
 unary operator operands = one_register operands >>= λ c. Some (Operator (operator c))
@@ -79,7 +79,7 @@ abbrev pub setting : List (List ℕ) → Option (Statement (List ℕ))
 setting operands = do
   tokens ← two_operands operands
   a ← register_at tokens.0
-  value ← value_at tokens.1
+  value ← value_written tokens.1
   Some (SetTo a value)
 
 -- the statement of an operator
@@ -91,7 +91,7 @@ operator_at operands Add = ternary op.Add operands
 operator_at operands Mul = ternary op.Mul operands
 operator_at operands Div = ternary op.Div operands
 operator_at operands Nand = ternary op.Nand operands
-operator_at operands Halt = plain op.Halt operands
+operator_at operands Halt = no_register op.Halt operands
 operator_at operands Alloc = binary op.Alloc operands
 operator_at operands Abandon = unary op.Abandon operands
 operator_at operands Out = unary op.Out operands
@@ -103,7 +103,7 @@ operator_at operands Set = setting operands
 abbrev pub word_at : List (List ℕ) → Option (Statement (List ℕ))
 word_at operands = do
   token ← one_operand operands
-  value ← value_at token
+  value ← value_written token
   Some (Word value)
 
 -- 1 to 8 words of eight hexadecimal digits each, as one run of digits
@@ -125,7 +125,7 @@ statement_of word operands =
 
 -- the statement that a text without spaces around it writes
 abbrev pub statement_at : List ℕ → Option (Statement (List ℕ))
-statement_at text = statement_of (before 32 text) (operands_in (after 32 text))
+statement_at text = statement_of (before 32 text) (operands_in (behind_byte 32 text))
 
 -- what stands behind a label: nothing, or a statement
 abbrev pub labelled_at : Option (List ℕ) → List ℕ → Option (Line (List ℕ))
@@ -134,8 +134,8 @@ labelled_at label text =
     else option_map (λ s. Code label (Some s)) (statement_at text)
 
 -- `.array NAME`
-abbrev pub array_at : List (List ℕ) → Option (Line (List ℕ))
-array_at operands = do
+abbrev pub array_line : List (List ℕ) → Option (Line (List ℕ))
+array_line operands = do
   name ← one_operand operands
   if is_label name then Some (Array name) else None
 
@@ -148,8 +148,8 @@ end_at operands = do
 -- a line without a label: nothing, the beginning or the end of a block, or a statement
 abbrev pub unlabelled_at : List ℕ → Option (Line (List ℕ))
 unlabelled_at text =
-    if bytes_eq (before 32 text) (codes ".array") then array_at (operands_in (after 32 text))
-    else if bytes_eq (before 32 text) (codes ".end") then end_at (operands_in (after 32 text))
+    if bytes_eq (before 32 text) (codes ".array") then array_line (operands_in (behind_byte 32 text))
+    else if bytes_eq (before 32 text) (codes ".end") then end_at (operands_in (behind_byte 32 text))
     else labelled_at None text
 
 -- a line whose comment is gone; only a label has a colon
@@ -158,15 +158,15 @@ content_at text None = unlabelled_at (trimmed text)
 content_at text (Some rest) = if is_label (trimmed_start (before 58 text)) then labelled_at (Some (trimmed_start (before 58 text))) (trimmed rest) else None
 
 -- what a line says, if it is of the forms of a line; a comment goes from `;` to the line's end
-abbrev pub line_at : List ℕ → Option (Line (List ℕ))
-line_at line = if list_all is_printable line then content_at (before 59 line) (after 58 (before 59 line)) else None
+abbrev pub parsed_line : List ℕ → Option (Line (List ℕ))
+parsed_line line = if list_all is_printable line then content_at (before 59 line) (behind_byte 58 (before 59 line)) else None
 
 -- the words of `.hex`
-abbrev pub words_in : List ℕ → ℕ
-words_in digits = length digits / 8
+abbrev pub hex_length : List ℕ → ℕ
+hex_length digits = length digits / 8
 
 -- how many words a line gives
 abbrev pub size_of : Option (Line (List ℕ)) → ℕ
-size_of (Some (Code label (Some (Hex digits)))) = words_in digits
+size_of (Some (Code label (Some (Hex digits)))) = hex_length digits
 size_of (Some (Code label (Some statement))) = 1
 size_of _ = 0

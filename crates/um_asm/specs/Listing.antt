@@ -8,7 +8,7 @@ use Rattle.um_word.specs.declared.op.Op.TheVariants as op
 use Rattle.um_word.specs.Operators.{decode_word, encode_op}
 use Rattle.um_asm.specs.declared.mnemonic.Mnemonic.{Mnemonic}
 use Rattle.um_asm.specs.declared.mnemonic.Mnemonic.TheVariants.{Cmov, Index, Amend, Add, Mul, Div, Nand, Halt, Alloc, Abandon, Out, In, Load, Set}
-use Rattle.um_asm.specs.Mnemonics.{text_of}
+use Rattle.um_asm.specs.Mnemonics.{mnemonic_text}
 
 -- `r0` to `r7`
 abbrev pub register_text : ℕ → List ℕ
@@ -21,8 +21,8 @@ more_operands (operand ∷ operands) = codes ", " ++ operand ++ more_operands op
 
 -- a mnemonic and its operands
 abbrev pub statement_text : Mnemonic → List (List ℕ) → List ℕ
-statement_text mnemonic [] = text_of mnemonic
-statement_text mnemonic (operand ∷ operands) = text_of mnemonic ++ codes " " ++ operand ++ more_operands operands
+statement_text mnemonic [] = mnemonic_text mnemonic
+statement_text mnemonic (operand ∷ operands) = mnemonic_text mnemonic ++ codes " " ++ operand ++ more_operands operands
 
 -- registers as operands
 abbrev pub one : ℕ → List (List ℕ)

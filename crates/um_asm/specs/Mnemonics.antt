@@ -6,21 +6,21 @@ use Rattle.um_asm.specs.declared.mnemonic.Mnemonic.{Mnemonic}
 use Rattle.um_asm.specs.declared.mnemonic.Mnemonic.TheVariants.{Cmov, Index, Amend, Add, Mul, Div, Nand, Halt, Alloc, Abandon, Out, In, Load, Set}
 
 -- how a mnemonic is written
-abbrev pub text_of : Mnemonic → List ℕ
-text_of Cmov = codes "cmov"
-text_of Index = codes "index"
-text_of Amend = codes "amend"
-text_of Add = codes "add"
-text_of Mul = codes "mul"
-text_of Div = codes "div"
-text_of Nand = codes "nand"
-text_of Halt = codes "halt"
-text_of Alloc = codes "alloc"
-text_of Abandon = codes "abandon"
-text_of Out = codes "out"
-text_of In = codes "in"
-text_of Load = codes "load"
-text_of Set = codes "set"
+abbrev pub mnemonic_text : Mnemonic → List ℕ
+mnemonic_text Cmov = codes "cmov"
+mnemonic_text Index = codes "index"
+mnemonic_text Amend = codes "amend"
+mnemonic_text Add = codes "add"
+mnemonic_text Mul = codes "mul"
+mnemonic_text Div = codes "div"
+mnemonic_text Nand = codes "nand"
+mnemonic_text Halt = codes "halt"
+mnemonic_text Alloc = codes "alloc"
+mnemonic_text Abandon = codes "abandon"
+mnemonic_text Out = codes "out"
+mnemonic_text In = codes "in"
+mnemonic_text Load = codes "load"
+mnemonic_text Set = codes "set"
 
 -- all of them, in the order of the operators' numbers
 abbrev pub mnemonics : List Mnemonic
@@ -28,4 +28,4 @@ mnemonics = Cmov ∷ Index ∷ Amend ∷ Add ∷ Mul ∷ Div ∷ Nand ∷ Halt �
 
 -- the mnemonic that a word writes
 abbrev pub mnemonic_at : List ℕ → Option Mnemonic
-mnemonic_at word = find (λ m. bytes_eq (text_of m) word) mnemonics
+mnemonic_at word = find (λ m. bytes_eq (mnemonic_text m) word) mnemonics

@@ -15,7 +15,7 @@ Said = Option (Line (List ℕ))
 
 -- a line where it stands: its number from 1; its block, if it stands in one; how many words of the
 -- scroll come before it; what it says there; and how many words come between it and the next `.end`
-pub record Standing : Type 0 where
+pub record PlacedLine : Type 0 where
   pub number : ℕ
   pub block : Option (Block (List ℕ))
   pub place : ℕ
@@ -50,14 +50,14 @@ block_after number place (Some block) (Some End) = None
 block_after number place block line = block
 
 -- lines that follow others: the number of the first, its block, and how many words come before it
-abbrev pub standing : (number : ℕ) → Option (Block (List ℕ)) → (place : ℕ) → List Said → List Standing
+abbrev pub standing : (number : ℕ) → Option (Block (List ℕ)) → (place : ℕ) → List Said → List PlacedLine
 standing number block place [] = []
 standing number block place (line ∷ lines) =
     record { number = number; block = block; place = place; line = in_block block line lines; until_end = words_until_end lines }
     ∷ standing (number + 1) (block_after number place block line) (place + size_of line) lines
 
 -- the lines of a text
-abbrev pub all_standing : List Said → List Standing
+abbrev pub all_standing : List Said → List PlacedLine
 all_standing lines = standing 1 None 0 lines
 
 -- a block by its line, or none outside blocks
@@ -65,9 +65,9 @@ abbrev pub scope_of : Option (Block (List ℕ)) → Option ℕ
 scope_of block = option_map (λ b. b.begun) block
 
 -- a place in the scroll, counted from the first word of the block
-abbrev pub place_in : Option (Block (List ℕ)) → ℕ → ℕ
-place_in None place = place
-place_in (Some block) place = place - block.first
+abbrev pub place_in_block : Option (Block (List ℕ)) → ℕ → ℕ
+place_in_block None place = place
+place_in_block (Some block) place = place - block.first
 
 -- a label or the name of a block, with the scope in which it is defined
 pub record Named : Type 0 where
@@ -76,18 +76,18 @@ pub record Named : Type 0 where
   pub definition : Definition
 
 -- a label stands for the place of the next word, and a block's name for the place of its first word
-abbrev pub defined_by : Standing → Said → List Named
+abbrev pub defined_by : PlacedLine → Said → List Named
 defined_by s (Some (Code (Some label) statement)) =
-    record { scope = scope_of s.block; name = label; definition = record { line = s.number; place = place_in s.block s.place; length = None } } ∷ []
+    record { scope = scope_of s.block; name = label; definition = record { line = s.number; place = place_in_block s.block s.place; length = None } } ∷ []
 defined_by s (Some (Array name)) =
     record { scope = None; name = name; definition = record { line = s.number; place = s.place; length = Some s.until_end } } ∷ []
 defined_by s _ = []
 
-abbrev pub defined_at : Standing → List Named
+abbrev pub defined_at : PlacedLine → List Named
 defined_at s = defined_by s s.line
 
 -- all that the lines define, in order
-abbrev pub definitions : List Standing → List Named
+abbrev pub definitions : List PlacedLine → List Named
 definitions lines = flat_map defined_at lines
 
 -- whether this is a definition of that name in that scope

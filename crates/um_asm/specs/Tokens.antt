@@ -11,9 +11,9 @@ use Rattle.um_asm.specs.declared.line.Value.TheVariants.{Decimal, Hexadecimal, L
 abbrev pub before : ℕ → List ℕ → List ℕ
 before mark text = before_first (λ b. b == mark) text
 
--- what stands after the first such byte
-abbrev pub after : ℕ → List ℕ → Option (List ℕ)
-after mark text = option_map (λ at. drop (at + 1) text) (position (λ b. b == mark) text)
+-- what stands behind the first such byte
+abbrev pub behind_byte : ℕ → List ℕ → Option (List ℕ)
+behind_byte mark text = option_map (λ at. drop (at + 1) text) (position (λ b. b == mark) text)
 
 abbrev pub is_space : ℕ → Bool
 is_space b = b == 32
@@ -64,10 +64,10 @@ is_len (Some suffix) = bytes_eq suffix (codes "len")
 is_len None = false
 
 -- the value that a token writes: a decimal number, `0x` and hexadecimal digits, a label, or `NAME.len`
-abbrev pub value_at : List ℕ → Option (Value (List ℕ))
-value_at token =
+abbrev pub value_written : List ℕ → Option (Value (List ℕ))
+value_written token =
     if is_numeral 10 token then Some (Decimal token)
     else if is_numeral 16 (behind_prefix token) then Some (Hexadecimal (behind_prefix token))
     else if is_label token then Some (Label token)
-    else if is_label (before 46 token) && is_len (after 46 token) then Some (Length (before 46 token))
+    else if is_label (before 46 token) && is_len (behind_byte 46 token) then Some (Length (before 46 token))
     else None

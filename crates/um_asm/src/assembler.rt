@@ -4,9 +4,9 @@ ghost use Rattle.std.specs.Prelude.{◌≡◌, ◌++◌, ◌⊎◌, Some, None, 
 ghost use Rattle.um_asm.specs.declared.fault.AsmFault.TheVariants as fault;
 ghost use Rattle.um_asm.specs.Lines.{are_hex_words};
 ghost use Rattle.um_asm.specs.Scopes.{all_standing};
-ghost use Rattle.um_asm.specs.Assembly.{assembled, hex_words, is_defined_before, label_in, line_words, lines_words, said_words, number_of, said_by, statement_words, up_to};
-ghost use Rattle.um_asm.specs.Parts.{block_at, line_read, said_in, said_read, statement_read, unended_from, value_read, HasRight, IsRight, Pushes};
-ghost use Rattle.um_asm.specs.Meanings.{meaning_in};
+ghost use Rattle.um_asm.specs.Assembly.{assembled, hex_words, is_defined_before, label_in, line_words, lines_words, said_words, value_number, said_by, statement_words, up_to};
+ghost use Rattle.um_asm.specs.inner.Parts.{block_read_at, line_read, said_in, said_read, statement_read, unended_from, value_read, HasRight, IsRight, Pushes};
+ghost use Rattle.um_asm.specs.inner.Definitions.{meaning_in};
 
 use crate::fault::AsmFault;
 use crate::labels::{Definition, Labels};
@@ -16,10 +16,7 @@ use crate::number::{hex_word, number_up_to};
 use crate::position::Position;
 use crate::reading::line_at;
 use std::alloc::Global;
-use um_word::{Op, encode};
-
-/// The most words that a scroll has.
-const MOST_WORDS: usize = 16_777_216;
+use um_word::{MOST_SCROLL_WORDS, Op, encode};
 
 /// The greatest value of `set`.
 const MOST_SET: u32 = 0x1ff_ffff;
@@ -36,7 +33,7 @@ pub fn assemble(alloc: Global, text: &[u8]) -> Result<Vec<u32>, AsmFault>
 {
     let labels = Labels::of(alloc, text)?;
     let words = words_of(alloc, text, &labels)?;
-    if words.len() > MOST_WORDS {
+    if words.len() > MOST_SCROLL_WORDS {
         return Err(AsmFault::TooLong);
     }
     Ok(words)
@@ -68,7 +65,7 @@ fn standing_line<'a>(
 ) -> Option<Line<&'a [u8]>>
     requires { IfSome line.now HasRight }
     ensures line { said_read result
-        ≡ said_in labels.now.unended position.now.number (block_at position.now)
+        ≡ said_in labels.now.unended position.now.number (block_read_at position.now)
         (said_read line.now) }
     ensures right { IfSome result HasRight }
 {
@@ -89,8 +86,8 @@ fn push_line<'a>(
 ) -> Result<(), AsmFault>
     requires { IfSome line.now HasRight }
     ensures { Pushes words.old.items words.new.items
-        (line_words (meaning_in labels.now.definitions) position.now.number (block_at position.now)
-        (said_in labels.now.unended position.now.number (block_at position.now)
+        (line_words (meaning_in labels.now.definitions) position.now.number (block_read_at position.now)
+        (said_in labels.now.unended position.now.number (block_read_at position.now)
         (said_read line.now)))
         result }
 {
@@ -114,7 +111,7 @@ fn push_said<'a>(
 ) -> Result<(), AsmFault>
     requires { HasRight line }
     ensures { Pushes words.old.items words.new.items
-        (said_words (meaning_in labels.now.definitions) position.now.number (block_at position.now)
+        (said_words (meaning_in labels.now.definitions) position.now.number (block_read_at position.now)
         (line_read line.entry))
         result }
 {
@@ -132,7 +129,7 @@ fn is_defined_before<'a>(
 ) -> bool
     ensures { result
         ≡ is_defined_before (meaning_in labels.now.definitions) position.now.number
-        (block_at position.now) (line_read line.now) }
+        (block_read_at position.now) (line_read line.now) }
 {
     let first = match *line {
         Line::Code(Some(label), _) => labels.get(position.scope(), label),
@@ -154,7 +151,7 @@ fn push_statement<'a>(
     requires { IsRight statement }
     ensures { Pushes words.old.items words.new.items
         (statement_words (meaning_in labels.now.definitions) position.now.number
-        (block_at position.now) (statement_read statement.entry))
+        (block_read_at position.now) (statement_read statement.entry))
         result }
 {
     match statement {
@@ -178,7 +175,7 @@ fn number_of<'a>(
 ) -> Result<u32, AsmFault>
     ensures { result
         ≡ up_to greatest position.now.number
-        (number_of (meaning_in labels.now.definitions) (block_at position.now)
+        (value_number (meaning_in labels.now.definitions) (block_read_at position.now)
         (value_read value.entry)) }
 {
     let line = position.number;
@@ -217,7 +214,7 @@ fn label_in<'a>(
     name: &'a [u8],
 ) -> Option<Definition>
     ensures { result
-        ≡ label_in (meaning_in labels.now.definitions) (block_at position.now) name.now }
+        ≡ label_in (meaning_in labels.now.definitions) (block_read_at position.now) name.now }
 {
     match labels.get(position.scope(), name) {
         Some(definition) => Some(definition),

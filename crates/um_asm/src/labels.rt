@@ -4,8 +4,8 @@ ghost use Rattle.std.specs.Prelude.{◌≡◌, ℕ, List, [], ◌∷◌, Option,
 ghost use Rattle.um_asm.specs.declared.fault.AsmFault.TheVariants as fault;
 ghost use Rattle.um_asm.specs.Scopes.{all_standing, definitions, lookup};
 ghost use Rattle.um_asm.specs.Assembly.{said_by};
-ghost use Rattle.um_asm.specs.Parts.{block_at, said_read, unended_from, IsBehind};
-ghost use Rattle.um_asm.specs.Meanings.{meaning_in, Adds, known_by, named_by};
+ghost use Rattle.um_asm.specs.inner.Parts.{block_read_at, said_read, unended_from, IsBehind};
+ghost use Rattle.um_asm.specs.inner.Definitions.{meaning_in, Adds, known_by, named_by};
 
 use crate::fault::AsmFault;
 use crate::line::Line;
@@ -80,9 +80,9 @@ fn define<'a>(
     position: &Position<&'a [u8]>,
     line: &Option<Line<&'a [u8]>>,
 ) -> Result<(), AsmFault>
-    requires { IsBehind position.now.place (block_at position.now) }
+    requires { IsBehind position.now.place (block_read_at position.now) }
     ensures ok { OnOk result (Adds definitions.old definitions.new
-        (known_by position.now.number (block_at position.now) position.now.place
+        (known_by position.now.number (block_read_at position.now) position.now.place
         (said_read line.now))) }
     ensures err { IfErr result (λ e. e ≡ fault.Memory) }
 {

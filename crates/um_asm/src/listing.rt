@@ -1,8 +1,10 @@
 //! Words to texts.
 
-ghost use Rattle.std.specs.Prelude.{◌≡◌, ◌<◌, ◌++◌, IfOk, OnOk};
+ghost use Rattle.std.specs.Prelude.{◌≡◌, ◌<◌, ◌≤◌, ◌^◌, ◌++◌, All, length, Ok, IfOk, OnOk};
 ghost use Rattle.um_asm.specs.Listing.{register_text, one, two, three, statement_text, operator_text, hex_text, word_text, listing};
-ghost use Rattle.um_asm.specs.Mnemonics.{text_of};
+ghost use Rattle.um_asm.specs.Mnemonics.{mnemonic_text};
+ghost use Rattle.um_word.specs.Scroll.{most_scroll_words};
+ghost use Rattle.um_asm.specs.Assembly.{assembled};
 ghost use Rattle.um_word.specs.Operators.{decode_word, IsEncodable};
 ghost use Rattle.um_word.specs.declared.op.Op.TheVariants as op;
 
@@ -17,13 +19,23 @@ use umix_base::Memory;
 /// at most 16,777,216. See "Disassembly" in docs/ASSEMBLY.md. Linear in the words.
 pub fn disassemble(alloc: Global, words: &[u32]) -> Result<Vec<u8>, Memory>
     ensures listing { IfOk result (λ text. text.items ≡ listing words.now) }
+    ensures assembles { length words.now ≤ most_scroll_words →
+        IfOk result (λ text. assembled text.items ≡ Ok words.now) }
 {
+    words_fit(words);
     let mut text = Vec::new(alloc);
     for word in words {
         push_word(&mut text, *word)?;
         text.push(b'\n')?;
     }
     Ok(text)
+}
+
+// a word has 32 bits: a fact of its type
+fn words_fit(words: &[u32])
+    ensures { All (λ word. word < 2 ^ 32) words.now }
+{
+    let _ = words;
 }
 
 fn push_word(text: &mut Vec<u8>, word: u32) -> Result<(), Memory>
@@ -69,7 +81,7 @@ fn push_operator(text: &mut Vec<u8>, operator: &Op) -> Result<(), Memory>
 }
 
 fn push_mnemonic(text: &mut Vec<u8>, mnemonic: Mnemonic) -> Result<(), Memory>
-    ensures { OnOk result (text.new.items ≡ text.old.items ++ text_of mnemonic) }
+    ensures { OnOk result (text.new.items ≡ text.old.items ++ mnemonic_text mnemonic) }
 {
     text.extend_from_slice(mnemonic.text())?;
     Ok(())

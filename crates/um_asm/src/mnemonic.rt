@@ -1,7 +1,7 @@
 //! The names of the operators' statements.
 
 ghost use Rattle.std.specs.Prelude.{◌≡◌};
-ghost use Rattle.um_asm.specs.Mnemonics.{text_of, mnemonic_at};
+ghost use Rattle.um_asm.specs.Mnemonics.{mnemonic_text, mnemonic_at};
 
 /// An operator's kind, as a statement names it.
 #[derive(Clone, Copy, PartialEq, Eq, Debug)]
@@ -42,7 +42,7 @@ const ALL: [Mnemonic; 14] = [
 
 impl Mnemonic {
     pub(crate) fn text(self) -> &'static [u8]
-        ensures { result.now ≡ text_of self }
+        ensures { result.now ≡ mnemonic_text self }
     {
         match self {
             Mnemonic::Cmov => b"cmov",

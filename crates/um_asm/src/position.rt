@@ -3,8 +3,8 @@
 ghost use Rattle.std.specs.Prelude.{◌≡◌, ◌+◌, ◌<◌, ◌^◌, None};
 ghost use Rattle.std.specs.Option.{option_map};
 ghost use Rattle.um_asm.specs.Lines.{size_of};
-ghost use Rattle.um_asm.specs.Scopes.{block_after, place_in, scope_of};
-ghost use Rattle.um_asm.specs.Parts.{block_at, block_read, said_read, IsBehind};
+ghost use Rattle.um_asm.specs.Scopes.{block_after, place_in_block, scope_of};
+ghost use Rattle.um_asm.specs.inner.Parts.{block_read_at, block_read, said_read, IsBehind};
 
 use crate::line::{Line, Statement};
 
@@ -42,7 +42,7 @@ impl<'a> Position<&'a [u8]> {
 
     /// The line that begins the block.
     pub(crate) fn scope(&self) -> Option<usize>
-        ensures { result ≡ scope_of (block_at self.now) }
+        ensures { result ≡ scope_of (block_read_at self.now) }
     {
         match self.block {
             Some(block) => Some(block.begun),
@@ -52,8 +52,8 @@ impl<'a> Position<&'a [u8]> {
 
     /// The place of the next word, counted from the first word of the block.
     pub(crate) fn place_in_scope(&self) -> usize
-        requires { IsBehind self.now.place (block_at self.now) }
-        ensures { result ≡ place_in (block_at self.now) self.now.place }
+        requires { IsBehind self.now.place (block_read_at self.now) }
+        ensures { result ≡ place_in_block (block_read_at self.now) self.now.place }
     {
         match self.block {
             Some(block) => self.place - block.first,
@@ -66,8 +66,8 @@ impl<'a> Position<&'a [u8]> {
         requires number { self.now.number + 1 < 2 ^ 64 }
         requires place { self.now.place + size_of (said_read line.now) < 2 ^ 64 }
         ensures number { result.number ≡ self.now.number + 1 }
-        ensures block { block_at result
-            ≡ block_after self.now.number self.now.place (block_at self.now) (said_read line.now) }
+        ensures block { block_read_at result
+            ≡ block_after self.now.number self.now.place (block_read_at self.now) (said_read line.now) }
         ensures place { result.place ≡ self.now.place + size_of (said_read line.now) }
     {
         Position {
@@ -79,7 +79,7 @@ impl<'a> Position<&'a [u8]> {
 
     fn block_after(&self, line: &Option<Line<&'a [u8]>>) -> Option<Block<&'a [u8]>>
         ensures { option_map block_read result
-            ≡ block_after self.now.number self.now.place (block_at self.now) (said_read line.now) }
+            ≡ block_after self.now.number self.now.place (block_read_at self.now) (said_read line.now) }
     {
         match (self.block, *line) {
             (None, Some(Line::Array(name))) => Some(Block {

@@ -3,9 +3,9 @@
 ghost use Rattle.std.specs.Prelude.{◌≡◌, ◌<◌, ◌∷◌, Some, IfSome};
 ghost use Rattle.std.specs.List.{list_all};
 ghost use Rattle.std.specs.Option.{option_map, option_copied};
-ghost use Rattle.um_asm.specs.Parts.{line_read, statement_read, pair_read, triple_read, HasRight, IsRight};
-ghost use Rattle.um_asm.specs.Tokens.{after, is_printable};
-ghost use Rattle.um_asm.specs.Lines.{operands_in, one_operand, two_operands, three_operands, one_register, two_registers, three_registers, operator_at, word_at, are_hex_words, hex_at, statement_of, statement_at, labelled_at, array_at, end_at, unlabelled_at, content_at, line_at};
+ghost use Rattle.um_asm.specs.inner.Parts.{line_read, statement_read, pair_read, triple_read, HasRight, IsRight};
+ghost use Rattle.um_asm.specs.Tokens.{behind_byte, is_printable};
+ghost use Rattle.um_asm.specs.Lines.{operands_in, one_operand, two_operands, three_operands, one_register, two_registers, three_registers, operator_at, word_at, are_hex_words, hex_at, statement_of, statement_at, labelled_at, array_line, end_at, unlabelled_at, content_at, parsed_line};
 
 use crate::line::{Line, Statement};
 use crate::mnemonic::Mnemonic;
@@ -15,7 +15,7 @@ use um_word::Op;
 /// What the line says, if it is of the forms of a line. Linear in its bytes.
 pub(crate) fn line_at(line: &[u8]) -> Option<Line<&[u8]>>
     ensures right { IfSome result HasRight }
-    ensures line { option_map line_read result ≡ line_at line.now }
+    ensures line { option_map line_read result ≡ parsed_line line.now }
 {
     if !is_printable(line) {
         return None;
@@ -27,7 +27,7 @@ pub(crate) fn line_at(line: &[u8]) -> Option<Line<&[u8]>>
 /// A line whose comment is gone.
 fn content_at(text: &[u8]) -> Option<Line<&[u8]>>
     ensures right { IfSome result HasRight }
-    ensures line { option_map line_read result ≡ content_at text.now (after 58 text.now) }
+    ensures line { option_map line_read result ≡ content_at text.now (behind_byte 58 text.now) }
 {
     let (label, rest) = cut(text, b':');
     match rest {
@@ -66,7 +66,7 @@ fn unlabelled_at(text: &[u8]) -> Option<Line<&[u8]>>
 fn array_at(operands: Option<&[u8]>) -> Option<Line<&[u8]>>
     ensures right { IfSome result HasRight }
     ensures line { option_map line_read result
-        ≡ array_at (operands_in (option_copied operands.entry)) }
+        ≡ array_line (operands_in (option_copied operands.entry)) }
 {
     let name = one_operand(operands)?;
     if is_label(name) {

@@ -4,8 +4,8 @@ ghost use Rattle.std.specs.Prelude.{◌≡◌, ◌+◌, ◌<◌, ◌≤◌, ◌=
 ghost use Rattle.std.specs.Char.{is_digit};
 ghost use Rattle.std.specs.List.{list_all, position};
 ghost use Rattle.std.specs.Option.{option_map, option_copied};
-ghost use Rattle.um_asm.specs.Parts.{value_read};
-ghost use Rattle.um_asm.specs.Tokens.{before, after, trimmed, trimmed_end, trimmed_start, is_label_byte, is_label, is_numeral, register_at, behind_prefix, is_len, value_at};
+ghost use Rattle.um_asm.specs.inner.Parts.{value_read};
+ghost use Rattle.um_asm.specs.Tokens.{before, behind_byte, trimmed, trimmed_end, trimmed_start, is_label_byte, is_label, is_numeral, register_at, behind_prefix, is_len, value_written};
 
 use crate::line::Value;
 
@@ -19,7 +19,7 @@ pub(crate) fn find(text: &[u8], mark: u8) -> Option<usize>
 /// What stands before the first `mark`, and what stands after it, if there is one.
 pub(crate) fn cut(text: &[u8], mark: u8) -> (&[u8], Option<&[u8]>)
     ensures front { result.0.now ≡ before mark text.now }
-    ensures back { option_copied result.1 ≡ after mark text.now }
+    ensures back { option_copied result.1 ≡ behind_byte mark text.now }
     ensures parts { MatchOption result.1 (length result.0.now ≤ length text.now)
         (λ rest. length result.0.now + length rest.now < length text.now) }
 {
@@ -123,7 +123,7 @@ fn is_len(suffix: Option<&[u8]>) -> bool
 }
 
 pub(crate) fn value_at(token: &[u8]) -> Option<Value<&[u8]>>
-    ensures { option_map value_read result ≡ value_at token.now }
+    ensures { option_map value_read result ≡ value_written token.now }
 {
     if is_numeral(token, 10) {
         return Some(Value::Decimal(token));

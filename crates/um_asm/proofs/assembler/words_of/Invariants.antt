@@ -1,15 +1,15 @@
 use Rattle.std.proofs.Common.{◌≡◌, ◌+◌, ◌≤◌, length}
 use Rattle.um_asm.specs.Scopes.{standing, all_standing}
 use Rattle.um_asm.specs.Assembly.{lines_words, said_by}
-use Rattle.um_asm.specs.Parts.{block_at, unended_from}
-use Rattle.um_asm.specs.Meanings.{meaning_in}
+use Rattle.um_asm.specs.inner.Parts.{block_read_at, unended_from}
+use Rattle.um_asm.specs.inner.Definitions.{meaning_in}
 use Rattle.um_asm.proofs.Walking.{prepended}
 use Rattle.um_asm.proofs.assembler.words_of.Given as goal
 
 -- the words so far and those of what is left are the words of the text
 abbrev pub invariant-loop-line : goal.invariant-loop-line
 invariant-loop-line l =
-    let block = block_at l.position in
+    let block = block_read_at l.position in
     let meaning = meaning_in l.labels.definitions in
     record {
       words : prepended l.words.items (lines_words meaning (standing l.position.number block l.position.place (said_by l.rest))) ≡ lines_words meaning (all_standing (said_by l.text));

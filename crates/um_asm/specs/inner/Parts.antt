@@ -49,8 +49,8 @@ abbrev pub block_read : Block Part → Block (List ℕ)
 block_read b = record { name = b.name.now; begun = b.begun; first = b.first }
 
 -- the block in which the next line stands
-abbrev pub block_at : Position Part → Option (Block (List ℕ))
-block_at p = option_map block_read p.block
+abbrev pub block_read_at : Position Part → Option (Block (List ℕ))
+block_read_at p = option_map block_read p.block
 
 -- a block's first word stands before the place
 abbrev pub IsBehind : (place : ℕ) → Option (Block (List ℕ)) → Type 0
