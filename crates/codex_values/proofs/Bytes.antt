@@ -7,10 +7,10 @@ use Rattle.std.proofs.lemmas.Bool.{eqb-true}
 use Rattle.codex_values.specs.Value as value
 use Rattle.codex_values.specs.Value.{Value, show}
 use Rattle.codex_values.specs.Tokens.{IsWordByte, EndsWord, Symbol, Word}
-use Rattle.codex_values.specs.Reading.{Begins, unit, pair, parens, inl, inr, Reads, IsOpen, IsBadAt}
+use Rattle.codex_values.specs.Reading.{Begins, unit, pair, parens, inl, inr, Reads, IsOpenValue, IsBadAt}
 use Rattle.codex_values.specs.declared.read.Sign.{Sign}
 use Rattle.codex_values.specs.declared.read.Sign.TheVariants.{Space, Open, Close, Comma, LetterI, LetterN, LetterL, LetterR, Other}
-use Rattle.codex_values.specs.Machine.{Frame, Mode, Standing, sign_of, fed, fed_by, ends}
+use Rattle.codex_values.specs.inner.ReaderStates.{Frame, Mode, ReaderState, sign_of, fed, fed_by, ends}
 use Rattle.codex_values.proofs.Signs.{IsWordEnd, AreSpaces, no_more, one_more, Mark, mark_spaced, mark_here, Spells, spaced, unit_at, pair_at, parens_at, inl_at, inr_at, SignsRead, signs_read-one}
 use Rattle.codex_values.proofs.MachineLemmas.{at_first, can_go, GoesFrom, fed_by-goes, goes-fed_by, read-goes, goes-read, ends-goes, goes-ends}
 
@@ -247,10 +247,10 @@ sign_of-byte_of (LetterR ∷ signs) = ap (λ l. LetterR ∷ l) (sign_of-byte_of 
 sign_of-byte_of (Other ∷ signs) = ap (λ l. Other ∷ l) (sign_of-byte_of signs)
 
 -- where the machine stands after these bytes
-abbrev pub after : List ℕ → Standing
+abbrev pub after : List ℕ → ReaderState
 after p = fed_by at_first (map sign_of p)
 
-pub open_at : (p : List ℕ) (standing : Mode × List Frame) → after p ≡ Some standing → IsOpen p
+pub open_at : (p : List ℕ) (standing : Mode × List Frame) → after p ≡ Some standing → IsOpenValue p
 open_at p standing is =
     let (s, v, h) = can_go standing.0 standing.1 in
     let read : SignsRead (map sign_of p ++ s) v = goes-read (map sign_of p ++ s) v (fed_by-goes at_first (map sign_of p) s v (rw is h)) in
@@ -258,7 +258,7 @@ open_at p standing is =
     map-append sign_of p (map byte_of s) ∙ ap (λ l. map sign_of p ++ l) (sign_of-byte_of s) in
     record { more = map byte_of s; value = v; reads = signs-reads (p ++ map byte_of s) v (rw same read) }
 
-pub not_open : (p : List ℕ) → after p ≡ None → IsOpen p → ⊥
+pub not_open : (p : List ℕ) → after p ≡ None → IsOpenValue p → ⊥
 not_open p is o =
     let goes : GoesFrom (after p) (map sign_of o.more) o.value =
     goes-fed_by at_first (map sign_of p) (map sign_of o.more) o.value
@@ -266,10 +266,10 @@ not_open p is o =
     rw is at goes
 
 -- a beginning of what is open is open
-open_prefix : (p q : List ℕ) → IsOpen (p ++ q) → IsOpen p
+open_prefix : (p q : List ℕ) → IsOpenValue (p ++ q) → IsOpenValue p
 open_prefix p q o = record { more = q ++ o.more; value = o.value; reads = rw append_assoc at o.reads }
 
-open_shorter : (text : List ℕ) (i j : ℕ) → i ≤ j → IsOpen (take j text) → IsOpen (take i text)
+open_shorter : (text : List ℕ) (i j : ℕ) → i ≤ j → IsOpenValue (take j text) → IsOpenValue (take i text)
 open_shorter text i j le o =
     let split : take i (take j text) ++ drop i (take j text) ≡ take j text = take-append-drop i (take j text) in
     let short : take i (take j text) ≡ take i text = take-take i j text le in
@@ -294,7 +294,7 @@ bad_here text standing is end = record {
 after-more : (p : List ℕ) (x : ℕ) (standing : Mode × List Frame) → after p ≡ Some standing → after (p ++ x ∷ []) ≡ fed standing.0 standing.1 (sign_of x)
 after-more p x standing is = rw map-append (fed_by-more at_first (map sign_of p) (sign_of x) standing is)
   where
-    fed_by-more : (start : Standing) (s : List Sign) (c : Sign) (standing : Mode × List Frame) → fed_by start s ≡ Some standing → fed_by start (s ++ c ∷ []) ≡ fed standing.0 standing.1 c
+    fed_by-more : (start : ReaderState) (s : List Sign) (c : Sign) (standing : Mode × List Frame) → fed_by start s ≡ Some standing → fed_by start (s ++ c ∷ []) ≡ fed standing.0 standing.1 c
     fed_by-more start [] c standing is = rw is refl
     fed_by-more None (d ∷ s) c standing is = cc
     fed_by-more (Some here) (d ∷ s) c standing is = fed_by-more (fed here.0 here.1 d) s c standing is
@@ -320,7 +320,7 @@ bad_at text k sign standing lt at is stops = record {
   ];
 }
   where
-    stuck : IsOpen (take (k + 1) text) → ⊥
+    stuck : IsOpenValue (take (k + 1) text) → ⊥
     stuck o = not_open (take (k + 1) text) (after-next text k sign standing lt at is ∙ stops) o
 
     le_or_lt : (i j : ℕ) → (i ≤ j) ⊎ (j < i)

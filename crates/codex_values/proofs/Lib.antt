@@ -5,3 +5,5 @@ pub mod MachineLemmas
 pub mod Bytes
 pub mod ReaderLemmas
 pub mod Examples
+pub mod NodeLemmas
+pub mod Written

@@ -4,7 +4,7 @@ use Rattle.std.proofs.Common.{refl, inl as left, inr as right}
 use Rattle.codex_values.specs.Value.{Value, unit, pair, inl, inr}
 use Rattle.codex_values.specs.declared.read.Sign.{Sign}
 use Rattle.codex_values.specs.declared.read.Sign.TheVariants.{Space, Open, Close, Comma, LetterI, LetterN, LetterL, LetterR, Other}
-use Rattle.codex_values.specs.Machine.{Frame, in_inl, in_inr, in_parens, in_pair, Mode, need, opened, word_i, word_in, word, got_value, Standing, begun_by, got, fed, fed_by, whole, ends}
+use Rattle.codex_values.specs.inner.ReaderStates.{Frame, in_inl, in_inr, in_parens, in_pair, Mode, need, opened, word_i, word_in, word, got_value, ReaderState, begun_by, got, fed, fed_by, whole, ends}
 use Rattle.codex_values.proofs.Signs.{IsWordEnd, AreSpaces, no_more, one_more, Mark, mark_spaced, mark_here, Spells, spaced, unit_at, pair_at, parens_at, inl_at, inr_at, SignsRead}
 
 -- v is the value of a text whose rest, behind an expression of value a in these frames, is t
@@ -57,7 +57,7 @@ can_go word_in frames = let (s, v, h) = can_end frames (inl unit) in (LetterL �
 can_go word frames = let (s, v, h) = can_end frames unit in (Open ∷ Close ∷ s, v, (tt, (unit, s, unit_at mark_here, h)))
 can_go (got_value a) frames = can_end frames a
 
-abbrev pub GoesFrom : Standing → List Sign → Value → Type 0
+abbrev pub GoesFrom : ReaderState → List Sign → Value → Type 0
 GoesFrom None s v = ⊥
 GoesFrom (Some standing) s v = Goes standing.0 standing.1 s v
 
@@ -229,21 +229,21 @@ fed-goes word_in frames c s v h = word_in-back frames c s v h
 fed-goes word frames c s v h = ended-back frames c s v h
 fed-goes (got_value a) frames c s v h = got-back a frames c s v h
 
-pub goes-fed_by : (standing : Standing) (p s : List Sign) (v : Value) → GoesFrom standing (p ++ s) v → GoesFrom (fed_by standing p) s v
+pub goes-fed_by : (standing : ReaderState) (p s : List Sign) (v : Value) → GoesFrom standing (p ++ s) v → GoesFrom (fed_by standing p) s v
 goes-fed_by standing [] s v h = h
 goes-fed_by None (c ∷ p) s v h = absurd h
 goes-fed_by (Some standing) (c ∷ p) s v h = goes-fed_by (fed standing.0 standing.1 c) p s v (goes-fed standing.0 standing.1 c (p ++ s) v h)
 
-pub fed_by-goes : (standing : Standing) (p s : List Sign) (v : Value) → GoesFrom (fed_by standing p) s v → GoesFrom standing (p ++ s) v
+pub fed_by-goes : (standing : ReaderState) (p s : List Sign) (v : Value) → GoesFrom (fed_by standing p) s v → GoesFrom standing (p ++ s) v
 fed_by-goes standing [] s v h = h
 fed_by-goes None (c ∷ p) s v h = absurd h
 fed_by-goes (Some standing) (c ∷ p) s v h = from (fed standing.0 standing.1 c) refl (fed_by-goes (fed standing.0 standing.1 c) p s v h)
   where
-    from : (next : Standing) → fed standing.0 standing.1 c ≡ next → GoesFrom next (p ++ s) v → Goes standing.0 standing.1 (c ∷ (p ++ s)) v
+    from : (next : ReaderState) → fed standing.0 standing.1 c ≡ next → GoesFrom next (p ++ s) v → Goes standing.0 standing.1 (c ∷ (p ++ s)) v
     from next is h = fed-goes standing.0 standing.1 c (p ++ s) v (rw is h)
 
 -- the machine stands before any sign
-abbrev pub at_first : Standing
+abbrev pub at_first : ReaderState
 at_first = Some (need, [])
 
 pub read-goes : (text : List Sign) (v : Value) → SignsRead text v → GoesFrom at_first text v

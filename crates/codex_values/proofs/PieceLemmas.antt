@@ -10,7 +10,7 @@ use Rattle.codex_values.specs.declared.print.Piece.{Piece}
 use Rattle.codex_values.specs.declared.print.Piece.TheVariants.{Whole, Comma, Close}
 use Rattle.codex_values.specs.Value.{unit, pair, inl, inr, show}
 use Rattle.codex_values.specs.Store.{value_at, values_of, made_of, PartsBelow}
-use Rattle.codex_values.specs.Pieces.{piece_text, stack_text, piece_weight, stack_weight, IsPieceIn, ArePiecesIn, Opens, IsPrinting}
+use Rattle.codex_values.specs.inner.Pieces.{piece_text, stack_text, piece_weight, stack_weight, IsPieceIn, ArePiecesIn, Opens, IsPrinting}
 use Rattle.codex_values.specs.Writing.{HasWritten, HasWrittenPart, Writes}
 use Rattle.std.specs.Prelude.{codes, IsErr, Result, Ok, Err}
 use Rattle.codex_values.proofs.StoreLemmas.{value_at-node}

@@ -9,7 +9,7 @@ use Rattle.codex_values.specs.declared.read.Sign.TheVariants.{Space, Close, Comm
 use Rattle.codex_values.specs.declared.read.Level.{Level}
 use Rattle.codex_values.specs.declared.read.Level.TheVariants.{Inl, Inr, Parens, Pair}
 use Rattle.codex_values.specs.declared.read.State.{State}
-use Rattle.codex_values.specs.Machine.{Frame, in_inl, in_inr, in_parens, in_pair, need, opened, word, got_value, Standing, begun_by, got, fed, whole, frame_of, frames_of, IsLevelIn, AreLevelsIn, IsAfter}
+use Rattle.codex_values.specs.inner.ReaderStates.{Frame, in_inl, in_inr, in_parens, in_pair, need, opened, word, got_value, ReaderState, begun_by, got, fed, whole, frame_of, frames_of, IsLevelIn, AreLevelsIn, IsAfter}
 
 pub frames_of-push : (nodes : List Shape) (levels : List Level) (level : Level) → frames_of nodes (levels ++ level ∷ []) ≡ frame_of nodes level ∷ frames_of nodes levels
 frames_of-push nodes [] level = refl
@@ -108,7 +108,7 @@ pub fed-got : (a : Value) (frames : List Frame) (c : Sign) → (c ≡ Space → 
 fed-got a frames Space not_space = absurd (not_space refl)
 fed-got a frames _ not_space = refl
 
-pub IsAfter-same : (expected known : Standing) (nodes : List Shape) (levels : List Level) (state : Option State) → expected ≡ known → IsAfter known nodes levels state → IsAfter expected nodes levels state
+pub IsAfter-same : (expected known : ReaderState) (nodes : List Shape) (levels : List Level) (state : Option State) → expected ≡ known → IsAfter known nodes levels state → IsAfter expected nodes levels state
 IsAfter-same expected known nodes levels state is h = rw is h
 
 -- a parenthesis that is open leaves no whole value

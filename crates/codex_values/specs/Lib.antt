@@ -3,5 +3,4 @@ pub mod Store
 pub mod Tokens
 pub mod Reading
 pub mod Writing
-pub mod Pieces
-pub mod Machine
+pub mod inner

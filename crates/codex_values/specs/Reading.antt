@@ -18,7 +18,7 @@ pub record Reads (text : List ℕ) (v : Value) : Type 0 where
   pub begins : Begins text (replicate spaces 32) v
 
 -- the text begins some text of a value
-pub record IsOpen (text : List ℕ) : Type 0 where
+pub record IsOpenValue (text : List ℕ) : Type 0 where
   pub more : List ℕ
   pub value : Value
   pub reads : Reads (text ++ more) value
@@ -27,5 +27,5 @@ pub record IsOpen (text : List ℕ) : Type 0 where
 pub record IsBadAt (text : List ℕ) (k : ℕ) : Type 0 where
   pub none : (v : Value) → Reads text v → ⊥
   pub within : k ≤ length text
-  pub holds : IsOpen (take k text)
-  pub longest : (j : ℕ) → j ≤ length text → IsOpen (take j text) → j ≤ k
+  pub holds : IsOpenValue (take k text)
+  pub longest : (j : ℕ) → j ≤ length text → IsOpenValue (take j text) → j ≤ k

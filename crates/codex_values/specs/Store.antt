@@ -39,6 +39,15 @@ PartsBelow n (InrNode a) = a < n
 abbrev pub IsGrounded : List Shape → Type 0
 IsGrounded nodes = (k : ℕ) (d : Shape) → k < length nodes → PartsBelow k (slice_index_or nodes k d)
 
+-- no two places have the same node
+abbrev pub IsEachOnce : List Shape → Type 0
+IsEachOnce nodes = (i j : ℕ) (d : Shape) → i < length nodes → j < length nodes → slice_index_or nodes i d ≡ slice_index_or nodes j d → i ≡ j
+
+-- the nodes of a store
+pub record IsStore (nodes : List Shape) : Type 0 where
+  pub grounded : IsGrounded nodes
+  pub once : IsEachOnce nodes
+
 -- all nodes still stand, others may follow them, and each place stands for the same value as before
 pub record Keeps (old new : List Shape) : Type 0 where
   pub nodes : take (length old) new ≡ old

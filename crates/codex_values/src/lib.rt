@@ -8,8 +8,10 @@ mod shape;
 mod store;
 #[cfg(test)]
 mod tests;
+mod writing;
 
 pub use print::PrintFault;
 pub use read::ValueFault;
 pub use shape::Shape;
 pub use store::ValueStore;
+pub use writing::put_all;

@@ -3,7 +3,7 @@ ghost use Rattle.umix_base.specs.Causes.{HasCauseIf, KeepsTelling};
 ghost use Rattle.codex_values.specs.Value.{show};
 ghost use Rattle.codex_values.specs.Store.{value_at};
 ghost use Rattle.codex_values.specs.Writing.{Writes};
-ghost use Rattle.codex_values.specs.Pieces.{Opens, ArePiecesIn, IsPieceIn};
+ghost use Rattle.codex_values.specs.inner.Pieces.{Opens, ArePiecesIn, IsPieceIn};
 
 use crate::{Shape, ValueStore};
 use std::alloc::{AllocFailed, Global};

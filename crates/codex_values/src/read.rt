@@ -1,8 +1,8 @@
 ghost use Rattle.std.specs.Prelude.{◌≡◌, ◌<◌, ℕ, List, length, IfOk};
 ghost use Rattle.codex_values.specs.Store.{value_at, Keeps};
 ghost use Rattle.codex_values.specs.Reading.{Reads, IsBadAt};
-ghost use Rattle.codex_values.specs.Machine.{sign_of as sign_of_byte, fed, got, begun_by, ends};
-ghost use Rattle.codex_values.specs.Machine.{mode_of, frames_of, IsStateIn, AreLevelsIn, IsAfter, IsWhole};
+ghost use Rattle.codex_values.specs.inner.ReaderStates.{sign_of as sign_of_byte, fed, got, begun_by, ends};
+ghost use Rattle.codex_values.specs.inner.ReaderStates.{mode_of, frames_of, IsStateIn, AreLevelsIn, IsAfter, IsWhole};
 ghost use Rattle.codex_values.specs.declared.shape.Shape.{Shape};
 ghost use Rattle.codex_values.specs.declared.read.Level.{Level};
 

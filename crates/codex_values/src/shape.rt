@@ -1,5 +1,5 @@
 /// One node of a value. Its parts are places of the store, counted from 0.
-#[derive(Clone, Copy, PartialEq, Eq, Debug)]
+#[derive(Clone, Copy, PartialEq, Eq, Hash, Debug)]
 pub enum Shape {
     /// `()`
     Unit,

@@ -79,6 +79,33 @@ fn a_value_is_built_printed_and_read(rt: HostRuntime) -> Result<(), Fail> {
 }
 
 #[test]
+fn equal_nodes_have_one_place(rt: HostRuntime) -> Result<(), Fail> {
+    let mut store = ValueStore::new(rt.alloc());
+    let unit = store.add(Shape::Unit)?;
+    let left = store.add(Shape::Inl(unit))?;
+    let again = store.add(Shape::Unit)?;
+    assert!(rt; again < store.len());
+    let other = store.add(Shape::Inl(again))?;
+    assert_eq!(rt; [unit, left, again, other], [0, 1, 0, 1]);
+    assert_eq!(rt; store.len(), 2);
+    assert!(rt; unit < 2 && left < 2);
+    assert!(rt; store.same(left, left));
+    assert!(rt; !store.same(unit, left));
+    Ok(())
+}
+
+#[test]
+fn pieces_are_written_in_order(rt: HostRuntime) -> Result<(), Fail> {
+    let mut sink = Kept {
+        bytes: Vec::new(rt.alloc()),
+        faults: 0,
+    };
+    assert!(rt; put_all(&mut sink, &[b"Inl ", b"()", b"\n"]).is_ok());
+    assert_eq!(rt; sink.bytes.as_slice(), b"Inl ()\n".as_slice());
+    Ok(())
+}
+
+#[test]
 fn a_million_levels_are_printed_and_read(rt: HostRuntime) -> Result<(), Fail> {
     let alloc = rt.alloc();
     let mut store = ValueStore::new(alloc);

@@ -1,7 +1,7 @@
 -- What is open when a sign comes behind an expression.
 use Rattle.std.proofs.Common.{refl, ◌∙◌}
 use Rattle.codex_values.specs.declared.read.Level.TheVariants.{Inl, Inr, Parens, Pair}
-use Rattle.codex_values.specs.Machine.{got}
+use Rattle.codex_values.specs.inner.ReaderStates.{got}
 use Rattle.codex_values.proofs.StoreLemmas.{keeps-keeps}
 use Rattle.codex_values.proofs.ReaderLemmas.{popped, done_inl, done_inr, closes_parens, goes_on_with_pair, stuck_in_parens, closes_pair, stuck_in_pair, AreLevelsIn-push, AreLevelsIn-kept}
 use Rattle.codex_values.proofs.store.ValueStore.behind.Goals as goal

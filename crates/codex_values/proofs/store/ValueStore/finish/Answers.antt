@@ -1,7 +1,7 @@
 -- What is open where the text ends.
 use Rattle.std.proofs.Common.{refl, ◌∙◌}
 use Rattle.codex_values.specs.declared.read.Level.TheVariants.{Inl, Inr}
-use Rattle.codex_values.specs.Machine.{whole}
+use Rattle.codex_values.specs.inner.ReaderStates.{whole}
 use Rattle.codex_values.proofs.StoreLemmas.{keeps-keeps}
 use Rattle.codex_values.proofs.ReaderLemmas.{popped, done_inl, done_inr, whole-open, AreLevelsIn-kept}
 use Rattle.codex_values.proofs.store.ValueStore.finish.Goals as goal

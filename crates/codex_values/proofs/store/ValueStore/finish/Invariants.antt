@@ -1,7 +1,7 @@
 -- What is open with the words that are done is what was open, and the measure is how much is open.
 use Rattle.std.specs.Prelude.{◌≡◌, ◌<◌, length, vec_len}
 use Rattle.codex_values.specs.Store.{value_at, Keeps}
-use Rattle.codex_values.specs.Machine.{whole, frames_of, AreLevelsIn}
+use Rattle.codex_values.specs.inner.ReaderStates.{whole, frames_of, AreLevelsIn}
 use Rattle.codex_values.proofs.store.ValueStore.finish.Given as goal
 
 abbrev pub invariant-loop-level : goal.invariant-loop-level

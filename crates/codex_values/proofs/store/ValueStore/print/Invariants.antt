@@ -2,7 +2,7 @@
 use Rattle.std.specs.Prelude.{◌≤◌}
 use Rattle.codex_values.specs.Value.{show}
 use Rattle.codex_values.specs.Store.{value_at}
-use Rattle.codex_values.specs.Pieces.{IsPrinting, stack_weight}
+use Rattle.codex_values.specs.inner.Pieces.{IsPrinting, stack_weight}
 use Rattle.codex_values.proofs.store.ValueStore.print.Given as goal
 
 abbrev pub invariant-loop-piece : goal.invariant-loop-piece

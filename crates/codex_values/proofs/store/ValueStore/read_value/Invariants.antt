@@ -1,7 +1,7 @@
 -- The reader stands where the machine does after the bytes that were read.
 use Rattle.std.specs.Prelude.{◌≡◌, Some, take}
 use Rattle.codex_values.specs.Store.{Keeps}
-use Rattle.codex_values.specs.Machine.{mode_of, frames_of, IsStateIn, AreLevelsIn}
+use Rattle.codex_values.specs.inner.ReaderStates.{mode_of, frames_of, IsStateIn, AreLevelsIn}
 use Rattle.codex_values.proofs.Bytes.{after}
 use Rattle.codex_values.proofs.store.ValueStore.read_value.Given as goal
 

@@ -2,7 +2,7 @@
 use Rattle.std.specs.Prelude.{◌≡◌, ◌∷◌}
 use Rattle.std.proofs.Common.{refl}
 use Rattle.codex_values.specs.declared.read.Level.TheVariants.{Inl, Inr, Parens}
-use Rattle.codex_values.specs.Machine.{in_parens, frames_of, AreLevelsIn}
+use Rattle.codex_values.specs.inner.ReaderStates.{in_parens, frames_of, AreLevelsIn}
 use Rattle.codex_values.proofs.StoreLemmas.{keeps_itself}
 use Rattle.codex_values.proofs.ReaderLemmas.{IsAfter-same, frames_of-push, frames_of-kept, AreLevelsIn-push, AreLevelsIn-kept, fed-opened, fed-word}
 use Rattle.codex_values.proofs.store.ValueStore.step.Goals as goal

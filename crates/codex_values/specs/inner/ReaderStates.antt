@@ -28,18 +28,18 @@ pub data Mode : Type 0 where
   got_value : Value → Mode
 
 -- where the machine stands, or nothing where no text of a value goes on so
-abbrev pub Standing : Type 0
-Standing = Option (Mode × List Frame)
+abbrev pub ReaderState : Type 0
+ReaderState = Option (Mode × List Frame)
 
 -- where it stands after the first sign of an expression, or a space before it
-abbrev pub begun_by : List Frame → Sign → Standing
+abbrev pub begun_by : List Frame → Sign → ReaderState
 begun_by frames Space = Some (need, frames)
 begun_by frames Open = Some (opened, frames)
 begun_by frames LetterI = Some (word_i, frames)
 begun_by frames c = None
 
 -- where it stands after a sign behind an expression, which isn't a space
-abbrev pub got : Value → List Frame → Sign → Standing
+abbrev pub got : Value → List Frame → Sign → ReaderState
 got a [] c = None
 got a (in_inl ∷ frames) c = got (inl a) frames c
 got a (in_inr ∷ frames) c = got (inr a) frames c
@@ -50,7 +50,7 @@ got a (in_pair x ∷ frames) Close = Some (got_value (pair x a), frames)
 got a (in_pair x ∷ frames) c = None
 
 -- where it stands after one sign more
-abbrev pub fed : Mode → List Frame → Sign → Standing
+abbrev pub fed : Mode → List Frame → Sign → ReaderState
 fed need frames c = begun_by frames c
 fed opened frames Space = Some (opened, frames)
 fed opened frames Close = Some (got_value unit, frames)
@@ -66,7 +66,7 @@ fed (got_value a) frames Space = Some (got_value a, frames)
 fed (got_value a) frames c = got a frames c
 
 -- where it stands after a text
-abbrev pub fed_by : Standing → List Sign → Standing
+abbrev pub fed_by : ReaderState → List Sign → ReaderState
 fed_by standing [] = standing
 fed_by None (c ∷ s) = None
 fed_by (Some standing) (c ∷ s) = fed_by (fed standing.0 standing.1 c) s
@@ -119,7 +119,7 @@ abbrev pub AreLevelsIn : List Shape → List Level → Type 0
 AreLevelsIn nodes levels = AllByRecursion (IsLevelIn nodes) levels
 
 -- the reader stands where the machine is expected to
-abbrev pub IsAfter : Standing → List Shape → List Level → Option State → Type 0
+abbrev pub IsAfter : ReaderState → List Shape → List Level → Option State → Type 0
 IsAfter expected nodes levels None = expected ≡ None
 IsAfter expected nodes levels (Some state) =
     (expected ≡ Some (mode_of nodes state, frames_of nodes levels)) × IsStateIn nodes state × AreLevelsIn nodes levels

@@ -1,0 +1,3 @@
+pub mod ReaderStates
+pub mod Pieces
+pub mod Codes
