@@ -1,6 +1,7 @@
 -- Facts that hold or don't.
 use Rattle.std.proofs.Common.{◌≡◌, ℕ, zero, suc, ◌+◌, ◌-◌, ◌<◌, ◌≤◌, ◌⊎◌, inl, inr, subst, arith}
 use Rattle.std.proofs.lemmas.Bool.{cases_eq, cases_lt, cases_order}
+use Rattle.two_d.specs.Places.{IsLeast}
 
 abbrev pub Decided : Type 0 → Type 0
 Decided P = P ⊎ (P → ⊥)
@@ -9,6 +10,19 @@ pub decided_both : {P Q : Type 0} → Decided P → Decided Q → Decided (P × 
 decided_both (inl p) (inl q) = inl (p, q)
 decided_both (inl p) (inr nq) = inr (λ x. nq x.1)
 decided_both (inr np) q = inr (λ x. np x.0)
+
+pub decided_three : {P Q R : Type 0} → Decided P → Decided Q → Decided R → Decided (P × Q × R)
+decided_three (inl p) (inl q) (inl r) = inl (p, q, r)
+decided_three (inl p) (inl q) (inr nr) = inr (λ x. nr x.2)
+decided_three (inl p) (inr nq) r = inr (λ x. nq x.1)
+decided_three (inr np) q r = inr (λ x. np x.0)
+
+pub decided_four : {P Q R S : Type 0} → Decided P → Decided Q → Decided R → Decided S → Decided (P × Q × R × S)
+decided_four (inl p) (inl q) (inl r) (inl s) = inl (p, q, r, s)
+decided_four (inl p) (inl q) (inl r) (inr ns) = inr (λ x. ns x.3)
+decided_four (inl p) (inl q) (inr nr) s = inr (λ x. nr x.2)
+decided_four (inl p) (inr nq) r s = inr (λ x. nq x.1)
+decided_four (inr np) q r s = inr (λ x. np x.0)
 
 pub decided_either : {P Q : Type 0} → Decided P → Decided Q → Decided (P ⊎ Q)
 decided_either (inl p) q = inl (inl p)
@@ -40,6 +54,13 @@ first_from P d from (suc n) = elim (d from) [
       | inr other ↦ none k (omega arith) (omega arith) p
     ])
   ]
+]
+
+-- the least number that passes, or none, where none passes from a bound on
+pub least_below : (P : ℕ → Type 0) → ((k : ℕ) → Decided (P k)) → (n : ℕ) → ((k : ℕ) → P k → k < n) → ((k : ℕ) × IsLeast P k) ⊎ ((k : ℕ) → P k → ⊥)
+least_below P d n below = elim (first_from P d 0 n) [
+  | inl (k, low, high, here, first) ↦ inl (k, record { holds = here; none_below = λ j less p. first j (omega arith) less p })
+  | inr none ↦ inr (λ k p. let lt = below k p in none k (omega arith) (omega arith) p)
 ]
 
 -- a fact on each number strictly between two

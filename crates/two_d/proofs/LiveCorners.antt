@@ -41,7 +41,7 @@ in_row row col q (inl above) left = elim (cases_eq q.row row) [
 ]
 in_row row col q (inr nothing) left = absurd (omega arith)
 
-decided_before : (p q : Place) → Decided (Before p q)
+pub decided_before : (p q : Place) → Decided (Before p q)
 decided_before p q = decided_either (decided_lt p.row q.row) (decided_both (cases_eq p.row q.row) (decided_lt p.col q.col))
 
 pub decided_within : (f : Rect) (p : Place) → Decided (Within f p)

@@ -6,8 +6,8 @@ use Rattle.std.specs.List.{Contains}
 use Rattle.std.proofs.lemmas.List.Elements.{Contains-append_left, Contains-append_right, Contains-append_cases}
 use Rattle.umix_base.specs.declared.place.Place.{Place}
 use Rattle.two_d.specs.Places.{at, Before, InReadingOrder, IsLeast, Rect}
-use Rattle.two_d.specs.Faults.{Fault, too_long, bad_byte, line_too_long, open_frame, frames_meet, two_entries, no_name, open_box, boxes_meet}
-use Rattle.two_d.specs.Reading.{Reading, Gave, gave, Then, goes_on, stops, The, it, TheOr, found, missing, Refused, refused, passed, RefusedAt, refused_at, none, each_after}
+use Rattle.two_d.specs.Faults.{TextFault, too_long, bad_byte, line_too_long, open_frame, frames_meet, two_entries, no_name, open_box, boxes_meet}
+use Rattle.two_d.specs.Reading.{Reading, Gave, gave, Then, goes_on, stops, The, it, TheOr, found, missing, Refused, refused, passed, RefusedAt, refused_at, none, Told, went, failed, each, each_after}
 use Rattle.two_d.specs.Figures as figures
 use Rattle.std.proofs.lemmas.List.{same_lists, get_or_default}
 use Rattle.std.specs.Str.Lines.{lines}
@@ -20,38 +20,38 @@ use Rattle.two_d.proofs.BoxAt.{box-one}
 use Rattle.two_d.proofs.Equal.{equal_places}
 use Rattle.two_d.proofs.ReadingOrder.{Before-irreflexive, Before-asymmetric, Before-transitive}
 
-abbrev pub HasOneAnswer : {A : Type 0} → Reading A → Type 0
-HasOneAnswer {A} m = (r s : Result A Fault) → m r → m s → r ≡ s
+abbrev pub HasOneAnswer : {F A : Type 0} → Reading F A → Type 0
+HasOneAnswer {F = F} {A = A} m = (r s : Result A F) → m r → m s → r ≡ s
 
 -- at most one has the property
 abbrev pub IsOne : {A : Type 0} → (A → Type 0) → Type 0
 IsOne {A} P = (x y : A) → P x → P y → x ≡ y
 
-pub gave_one : {A : Type 0} (x : A) → HasOneAnswer (Gave x)
+pub gave_one : {F A : Type 0} (x : A) → HasOneAnswer (Gave {F = F} x)
 gave_one x _ _ gave gave = refl
 
-pub the_one : {A : Type 0} (P : A → Type 0) → IsOne P → HasOneAnswer (The P)
+pub the_one : {F A : Type 0} (P : A → Type 0) → IsOne P → HasOneAnswer (The {F = F} P)
 the_one P one _ _ (it x p) (it y q) = ap Ok (one x y p q)
 
-pub the_or_one : {A : Type 0} (f : Fault) (P : A → Type 0) → IsOne P → HasOneAnswer (TheOr f P)
+pub the_or_one : {F A : Type 0} (f : F) (P : A → Type 0) → IsOne P → HasOneAnswer (TheOr f P)
 the_or_one f P one _ _ (found x p) (found y q) = ap Ok (one x y p q)
 the_or_one f P one _ _ (found x p) (missing not_so) = absurd (not_so x p)
 the_or_one f P one _ _ (missing not_so) (found y q) = absurd (not_so y q)
 the_or_one f P one _ _ (missing not_so) (missing _) = refl
 
-pub refused_one : (f : Fault) (P : Type 0) → HasOneAnswer (Refused f P)
+pub refused_one : {F : Type 0} (f : F) (P : Type 0) → HasOneAnswer (Refused f P)
 refused_one f P _ _ (refused p) (refused q) = refl
 refused_one f P _ _ (refused p) (passed not_so) = absurd (not_so p)
 refused_one f P _ _ (passed not_so) (refused q) = absurd (not_so q)
 refused_one f P _ _ (passed not_so) (passed _) = refl
 
-pub refused_at_one : {A : Type 0} (f : A → Fault) (P : A → Type 0) → IsOne P → HasOneAnswer (RefusedAt f P)
+pub refused_at_one : {F A : Type 0} (f : A → F) (P : A → Type 0) → IsOne P → HasOneAnswer (RefusedAt f P)
 refused_at_one f P one _ _ (refused_at x p) (refused_at y q) = ap (λ z. Err (f z)) (one x y p q)
 refused_at_one f P one _ _ (refused_at x p) (none not_so) = absurd (not_so x p)
 refused_at_one f P one _ _ (none not_so) (refused_at y q) = absurd (not_so y q)
 refused_at_one f P one _ _ (none not_so) (none _) = refl
 
-pub then_one : {A B : Type 0} (m : Reading A) (k : A → Reading B) → HasOneAnswer m → ((x : A) → HasOneAnswer (k x)) → HasOneAnswer (Then m k)
+pub then_one : {F A B : Type 0} (m : Reading F A) (k : A → Reading F B) → HasOneAnswer m → ((x : A) → HasOneAnswer (k x)) → HasOneAnswer (Then m k)
 then_one m k first next r s (goes_on x p q) (goes_on y u v) =
     let same : x ≡ y = (let e = first (Ok x) (Ok y) p u in cc) in
     next y r s (subst (λ z. k z r) same q) v
@@ -59,10 +59,37 @@ then_one m k first next r _ (goes_on x p q) (stops f u) = absurd (let e = first 
 then_one m k first next _ s (stops f p) (goes_on y u v) = absurd (let e = first (Err f) (Ok y) p u in cc)
 then_one m k first next _ _ (stops f p) (stops g u) = let e = first (Err f) (Err g) p u in cc
 
-pub each_after_one : {A B : Type 0} (k : List B → A → Reading B) → ((before : List B) (x : A) → HasOneAnswer (k before x)) → (before : List B) (xs : List A) → HasOneAnswer (each_after k before xs)
+pub each_after_one : {F A B : Type 0} (k : List B → A → Reading F B) → ((before : List B) (x : A) → HasOneAnswer (k before x)) → (before : List B) (xs : List A) → HasOneAnswer (each_after k before xs)
 each_after_one k one before [] = gave_one before
 each_after_one k one before (x ∷ xs) =
     then_one (k before x) (λ y. each_after k (before ++ y ∷ []) xs) (one before x) (λ y. each_after_one k one (before ++ y ∷ []) xs)
+
+-- what comes after may rest on what was read
+pub then_one_of : {F A B : Type 0} (m : Reading F A) (k : A → Reading F B) → HasOneAnswer m → ((x : A) → m (Ok x) → HasOneAnswer (k x)) → HasOneAnswer (Then m k)
+then_one_of m k first next r s (goes_on x p q) (goes_on y u v) =
+    let same : x ≡ y = (let e = first (Ok x) (Ok y) p u in cc) in
+    next y u r s (subst (λ z. k z r) same q) v
+then_one_of m k first next r _ (goes_on x p q) (stops f u) = absurd (let e = first (Ok x) (Err f) p u in cc)
+then_one_of m k first next _ s (stops f p) (goes_on y u v) = absurd (let e = first (Err f) (Ok y) p u in cc)
+then_one_of m k first next _ _ (stops f p) (stops g u) = let e = first (Err f) (Err g) p u in cc
+
+pub after_one_of : {F A B : Type 0} (k : List B → A → Reading F B) (xs : List A) → ((before : List B) (x : A) → Contains xs x → HasOneAnswer (k before x)) → (before : List B) → HasOneAnswer (each_after k before xs)
+after_one_of k [] one before = gave_one before
+after_one_of k (x ∷ xs) one before =
+    then_one (k before x) (λ y. each_after k (before ++ y ∷ []) xs) (one before x (0, omega arith, refl))
+    (λ y. after_one_of k xs (λ earlier z there. one earlier z (Contains-append_right (x ∷ []) xs z there)) (before ++ y ∷ []))
+
+pub list_one_of : {F A B : Type 0} (k : A → Reading F B) (xs : List A) → ((x : A) → Contains xs x → HasOneAnswer (k x)) → HasOneAnswer (each k xs)
+list_one_of k [] one = gave_one []
+list_one_of k (x ∷ xs) one =
+    then_one (k x) (λ y. Then (each k xs) (λ ys. Gave (y ∷ ys))) (one x (0, omega arith, refl))
+    (λ y. then_one (each k xs) (λ ys. Gave (y ∷ ys)) (list_one_of k xs (λ z there. one z (Contains-append_right (x ∷ []) xs z there))) (λ ys. gave_one (y ∷ ys)))
+
+pub told_one : {F G A : Type 0} (tell : F → G) (m : Reading F A) → HasOneAnswer m → HasOneAnswer (Told tell m)
+told_one tell m one _ _ (went x p) (went y q) = let e = one (Ok x) (Ok y) p q in cc
+told_one tell m one _ _ (went x p) (failed g q) = absurd (let e = one (Ok x) (Err g) p q in cc)
+told_one tell m one _ _ (failed f p) (went y q) = absurd (let e = one (Err f) (Ok y) p q in cc)
+told_one tell m one _ _ (failed f p) (failed g q) = let e = one (Err f) (Err g) p q in let same : f ≡ g = cc in ap (λ h. Err (tell h)) same
 
 pub least_one : (P : ℕ → Type 0) → IsOne (IsLeast P)
 least_one P i j h g = elim (cases_order i j) [
@@ -86,7 +113,7 @@ is_behind front behind p q order (k, lt, is) =
     let long : length front + (1 + k) < length (front ++ p ∷ behind) = grind (arith, common_steps) in
     subst (λ x. Before x q) low (subst (λ x. Before (get_or (front ++ p ∷ behind) (length front) q) x) high (order (length front) (length front + (1 + k)) q (omega arith) long))
 
-in_order_or : (p q : Place) → Before p q ⊎ (p ≡ q) ⊎ Before q p
+pub in_order_or : (p q : Place) → Before p q ⊎ (p ≡ q) ⊎ Before q p
 in_order_or p q = elim (cases_order p.row q.row) [
   | inl row ↦ elim (cases_order p.col q.col) [
     | inl col ↦ inr (inl (equal_places p q row col))
@@ -140,7 +167,7 @@ module _ (Corner : Place → Type 0) (Figure : Place → Rect → Type 0) where
   pub live_one : IsOne (figures.AreLive Corner Figure)
   live_one xs ys one other = same_rest [] xs ys one other
 
-  pub figures_one : (opens meets : Place → Fault) (further : Rect → Reading (Unit {0})) → ((p : Place) → IsOne (Figure p)) → ((f : Rect) → HasOneAnswer (further f)) → HasOneAnswer (figures.figures_of Corner Figure opens meets further)
+  pub figures_one : (opens meets : Place → TextFault) (further : Rect → Reading TextFault (Unit {0})) → ((p : Place) → IsOne (Figure p)) → ((f : Rect) → HasOneAnswer (further f)) → HasOneAnswer (figures.figures_of Corner Figure opens meets further)
   figures_one opens meets further one more =
       then_one (The (figures.AreLive Corner Figure)) (λ live. each_after (figures.figure_at Corner Figure opens meets further) [] live)
       (the_one (figures.AreLive Corner Figure) live_one)

@@ -3,7 +3,7 @@ use Rattle.std.specs.Prelude.{◌≡◌, ℕ, ◌+◌, ◌<◌, ◌≤◌, ◌==
 use Rattle.std.specs.Str.Lines.{lines}
 use Rattle.umix_base.specs.declared.place.Place.{Place}
 use Rattle.two_d.specs.Places.{at, IsLeast}
-use Rattle.two_d.specs.Faults.{too_long, bad_byte, line_too_long}
+use Rattle.two_d.specs.Faults.{TextFault, too_long, bad_byte, line_too_long}
 use Rattle.two_d.specs.Reading.{Reading, give, refuse, refuse_at, ◌>>◌}
 
 -- A grid is its lines. In the text a line ends with LF or CR LF, and the last one may lack it.
@@ -39,7 +39,7 @@ abbrev pub IsTooLong : Grid → ℕ → Type 0
 IsTooLong grid i = 4096 < length (slice_index_or grid i [])
 
 -- the grid of a text, or the first of faults 1 to 3
-abbrev pub grid_of : List ℕ → Reading Grid
+abbrev pub grid_of : List ℕ → Reading TextFault Grid
 grid_of text = do
   refuse too_long (262144 < length text)
   refuse_at (λ i. bad_byte (place_at text i)) (IsLeast (IsBadByte text))

@@ -3,7 +3,7 @@
 use Rattle.std.specs.Prelude.{◌⊎◌, ◌↔◌, List, [], Contains, Any, ⊤}
 use Rattle.umix_base.specs.declared.place.Place.{Place}
 use Rattle.two_d.specs.Places.{Before, InReadingOrder, Rect, Within, OnBorder, ShareACell}
-use Rattle.two_d.specs.Faults.{Fault}
+use Rattle.two_d.specs.Faults.{TextFault}
 use Rattle.two_d.specs.Reading.{Reading, give, the, the_or, refuse, each_after, ◌>>=◌, ◌>>◌}
 
 -- Corner p: at p is the pattern of a corner. Figure p f: the figure f has its top left corner at p.
@@ -25,8 +25,8 @@ module _ (Corner : Place → Type 0) (Figure : Place → Rect → Type 0) where
 
   -- The figure of a live corner, after those of the earlier ones: the corner has a figure,
   -- which meets none of them; then what else is asked of it.
-  abbrev pub figure_at : (opens meets : Place → Fault) → (Rect → Reading (Unit {0}))
-      → List Rect → Place → Reading Rect
+  abbrev pub figure_at : (opens meets : Place → TextFault) → (Rect → Reading TextFault (Unit {0}))
+      → List Rect → Place → Reading TextFault Rect
   figure_at opens meets further earlier p = do
     f ← the_or (opens p) (Figure p)
     refuse (meets p) (Any (λ e. OnBorder e p ⊎ ShareACell f e) earlier)
@@ -34,8 +34,21 @@ module _ (Corner : Place → Type 0) (Figure : Place → Rect → Type 0) where
     give f
 
   -- the figures of the live corners, in reading order, or the first fault
-  abbrev pub figures_of : (opens meets : Place → Fault) → (Rect → Reading (Unit {0}))
-      → Reading (List Rect)
+  abbrev pub figures_of : (opens meets : Place → TextFault) → (Rect → Reading TextFault (Unit {0}))
+      → Reading TextFault (List Rect)
   figures_of opens meets further = do
     live ← the AreLive
     each_after (figure_at opens meets further) [] live
+
+-- A kind of figures: what is a corner, which rectangle is the figure of a corner, the fault of a corner
+-- without one, the fault of one whose figure meets an earlier one, and what else is asked of a figure.
+pub record Kind : Type 1 where
+  pub corner : Place → Type 0
+  pub figure : Place → Rect → Type 0
+  pub opens : Place → TextFault
+  pub meets : Place → TextFault
+  pub further : Rect → Reading TextFault (Unit {0})
+
+-- the figures of a kind, in reading order, or the first fault
+abbrev pub all_of : Kind → Reading TextFault (List Rect)
+all_of kind = figures_of kind.corner kind.figure kind.opens kind.meets kind.further

@@ -14,6 +14,15 @@ Before p q = (p.row < q.row) ⊎ ((p.row ≡ q.row) × (p.col < q.col))
 abbrev pub InReadingOrder : List Place → Type 0
 InReadingOrder ps = AllPairs Before ps
 
+-- p is the first place of its kind
+pub record IsFirstPlace (P : Place → Type 0) (p : Place) : Type 0 where
+  pub holds : P p
+  pub none_before : (q : Place) → Before q p → P q → ⊥
+
+-- p is the second place of its kind: the first that has another before it
+abbrev pub IsSecondPlace : (Place → Type 0) → Place → Type 0
+IsSecondPlace P = IsFirstPlace (λ p. P p × ((q : Place) × Before q p × P q))
+
 -- i is the least number of its kind
 pub record IsLeast (P : ℕ → Type 0) (i : ℕ) : Type 0 where
   pub holds : P i

@@ -28,9 +28,13 @@ pub data Form : Type 0 where
   split : Tree → Form
   call : List ℕ → Form
 
+-- what is sent, and where, without the places in memory
+abbrev pub outs_of : List (Exp × Side) → List (Tree × Side)
+outs_of outs = map (λ out. (tree_of out.0, out.1)) outs
+
 -- a command without the places of its parts in memory
 abbrev pub form_of : Command → Form
-form_of (command.Send outs) = send (map (λ out. (tree_of out.0, out.1)) outs.items)
+form_of (command.Send outs) = send (outs_of outs.items)
 form_of (command.Case e s t) = case (tree_of e) s t
 form_of (command.Split e) = split (tree_of e)
 form_of (command.Call name) = call name
