@@ -1,6 +1,6 @@
 -- Each answer of the reader is exact. A part `P` stands beside a part `L` whose levels are bounded more loosely.
 use Rattle.std.proofs.Common.{◌≡◌, ℕ, ◌+◌, ◌-◌, ◌≤◌, inr, List, ◌++◌, length, take, drop, refl, sym, arith, Result, Ok, Err, length-drop, take-append-drop}
-use Rattle.box_parse.specs.Mirror.{Refusal, bad, deep, ◌>>=◌, mapped}
+use Rattle.box_parse.specs.inner.ReaderOnLists.{Refusal, bad, deep, ◌>>=◌, mapped}
 use Rattle.two_d.proofs.Agree.{Part, After, Done, IsFree, IsRegular, IsStuck, IsOpenAt, stuck_first, stuck_second, none_first, none_second, open_first, open_second, regular_done, leaves_join}
 use Rattle.two_d.proofs.Parts.{Mapped}
 use Rattle.two_d.specs.Grammar as grammar

@@ -4,7 +4,7 @@ use Rattle.std.proofs.Common.{◌≡◌, ◌≢◌, ℕ, zero, suc, ◌+◌, ◌
 use Rattle.std.proofs.lemmas.Bool.Decides.{nat_tests}
 use Rattle.std.proofs.lemmas.Bool.{cases_eq, cases_lt, cases_Bool}
 use Rattle.box_parse.proofs.Answers.{IsAnswer, IsDeadEnd, open_read, opens_some, last_bytes}
-use Rattle.box_parse.specs.Mirror.{Refusal, bad, deep, skip, is_word_byte, ends_word, is_word, head_bytes, after_head, found, choose_from, choose_at, opens, innermost_at, head_at, first_at}
+use Rattle.box_parse.specs.inner.ReaderOnLists.{Refusal, bad, deep, skip, is_word_byte, ends_word, is_word, head_bytes, after_head, found, choose_from, choose_at, opens, innermost_at, head_at, first_at}
 use Rattle.two_d.proofs.Agree.{agree, Part, IsRegular, IsStuck, IsOpenAt}
 use Rattle.two_d.proofs.Choices.{best, proper_of, stuck_left, left_at_space, left_at_other}
 use Rattle.two_d.proofs.Heads.{Head, IsAmong, OneHead, spelled, spelt, plain, regular_head, stuck_head, open_head, paren, paren_end, bracket, bracket_end, comma, north, west, left, right}

@@ -2,7 +2,7 @@
 use Rattle.std.proofs.Common.{◌≡◌, ℕ, zero, suc, ◌<◌, inl, inr, List, [], ◌∷◌, refl, sym, subst, arith, Result, Ok, Err}
 use Rattle.box_parse.proofs.Answers.{IsAnswer, answer_after, answer_done, answer_mapped}
 use Rattle.box_parse.proofs.Choosing.{answer_choice, answer_head, answer_first}
-use Rattle.box_parse.specs.Mirror.{Refusal, Read, ◌>>=◌, mapped, Sides, choose_at, head_at, first_at, tail_at, exp_at, exp_from, inside_from, ended_from, pair_from, side_at, out_at, second_at, outs_from, outs_at, list_from, list_at, case_at}
+use Rattle.box_parse.specs.inner.ReaderOnLists.{Refusal, Read, ◌>>=◌, mapped, Sides, choose_at, head_at, first_at, tail_at, exp_at, exp_from, inside_from, ended_from, pair_from, side_at, out_at, second_at, outs_from, outs_at, list_from, list_at, case_at}
 use Rattle.two_d.proofs.Agree.{Part, After, Done, IsRegular, regular_after, regular_done}
 use Rattle.two_d.proofs.Heads.{Head, IsAmong, OneHead, regular_head, paren, paren_end, bracket, bracket_end, comma, north, west, left, right, south, east, of}
 use Rattle.two_d.proofs.Parts.{heads, Then, Mapped, pair_part, paren_part, tail_part, exp_part, side_of, other, out_part, other_part, second_part, outs_part, send_part, case_part, regular_heads, regular_then, regular_mapped, regular_pair, regular_ended, regular_paren, regular_tail, regular_exp}

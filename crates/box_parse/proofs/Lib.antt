@@ -1,5 +1,6 @@
 pub mod Answers
 pub mod Choosing
+pub mod Commands
 pub mod Exact
 pub mod Mirrors
 pub mod Naming

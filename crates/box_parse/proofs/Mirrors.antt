@@ -1,6 +1,6 @@
 -- The mirrored functions by their cases, for the code's goals.
 use Rattle.std.proofs.Common.{◌≡◌, ℕ, zero, suc, ◌-◌, List, [], ◌∷◌, Ok, refl, sub-one}
-use Rattle.box_parse.specs.Mirror.{◌>>=◌, head_at, first_at, choose_at, innermost_at, tail_at, exp_at, inside_at, ended_at, mapped, inside_from, ended_from, pair_from, leaf_of, head_of}
+use Rattle.box_parse.specs.inner.ReaderOnLists.{◌>>=◌, head_at, first_at, choose_at, innermost_at, tail_at, exp_at, inside_at, ended_at, mapped, inside_from, ended_from, pair_from, leaf_of, head_of}
 use Rattle.box_parse.specs.declared.token.Token.{Token}
 use Rattle.box_parse.specs.declared.token.Token.TheVariants.{Paren, ParenEnd, North, Left, Right}
 use Rattle.two_d.proofs.Heads.{Head, paren, paren_end, comma, north, west, left, right}

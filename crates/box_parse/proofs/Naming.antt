@@ -9,7 +9,7 @@ use Rattle.box_parse.proofs.Answers.{IsAnswer, opens_some, last_bytes, answer_ma
 use Rattle.box_parse.proofs.Choosing.{ends_word_is, ends_word_not, skip_space, skip_other}
 use Rattle.box_parse.proofs.Exact.{Reads}
 use Rattle.box_parse.proofs.Runs.{run-nil, run-at_true, run-at_false, run-le, name_taken}
-use Rattle.box_parse.specs.Mirror.{Refusal, bad, ◌>>=◌, mapped, skip, is_word_byte, ends_word, is_name_byte, run, name_len, named, begins_quote, quoted_at, bare_at, name_at}
+use Rattle.box_parse.specs.inner.ReaderOnLists.{Refusal, bad, ◌>>=◌, mapped, skip, is_word_byte, ends_word, is_name_byte, run, name_len, named, begins_quote, quoted_at, bare_at, name_at}
 use Rattle.two_d.proofs.Agree.{agree, Part, IsRegular, IsStuck, IsOpenAt, MayFollow}
 use Rattle.two_d.proofs.Parts.{IsNameToken, name_in, name_part, proper_name, name_a, all_of, regular_name}
 use Rattle.two_d.proofs.Tokens.{Token, symbol, word, quoted, Begins, Reads as Reading, IsProper, Spaced, OneOf, agree_none, agree_some, agree_ends', no_space, not_word_space, not_word_quote, spaced_of, text_of, reads_text, regular_one_of}

@@ -7,7 +7,7 @@ use Rattle.std.proofs.lemmas.List.Elements.{All-from_recursion}
 use Rattle.std.specs.Char.{is_ascii_lowercase, IsAsciiLowercase}
 use Rattle.std.specs.List.{AllByRecursion}
 use Rattle.two_d.specs.Names.{IsNameByte, IsName, BeginsWithLetter}
-use Rattle.box_parse.specs.Mirror.{is_name_byte, run, name_len}
+use Rattle.box_parse.specs.inner.ReaderOnLists.{is_name_byte, run, name_len}
 
 pub run-none : (a : List ℕ) → run 0 a ≡ 0
 unfolding run

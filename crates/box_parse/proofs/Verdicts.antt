@@ -3,7 +3,7 @@ use Rattle.std.proofs.Common.{◌≡◌, ℕ, ◌≤◌, ◌⊎◌, inl, inr, Li
 use Rattle.std.proofs.lemmas.List.{take_all}
 use Rattle.box_parse.proofs.Answers.{opens_some}
 use Rattle.box_parse.proofs.Whole.{Verdict, verdict}
-use Rattle.box_parse.specs.Mirror.{Fails, IsWithin, whole_at, fault_of}
+use Rattle.box_parse.specs.inner.ReaderOnLists.{Fails, IsWithin, whole_at, fault_of}
 use Rattle.box_parse.specs.Refusals.{IsFaultOf}
 use Rattle.box_parse.specs.declared.fault.BoxFault.TheVariants as fault
 use Rattle.box_parse.specs.declared.fault.BoxFault.{BoxFault}
@@ -13,7 +13,7 @@ use Rattle.two_d.specs.Grammar.{IsTextOf, IsLongestOpen, IsTooDeep, IsBad, Opens
 use Rattle.two_d.specs.Trees.{Form}
 
 -- Of a text only one of these is so.
-longest_once : (text : List ℕ) (j k : ℕ) → IsLongestOpen text j → IsLongestOpen text k → j ≡ k
+pub longest_once : (text : List ℕ) (j k : ℕ) → IsLongestOpen text j → IsLongestOpen text k → j ≡ k
 longest_once text j k one two = omega (arith, one.longest k two.within two.holds, two.longest j one.within one.holds)
 
 no_level : (text : List ℕ) (k m : ℕ) → length text ≤ k → OpensLevel (drop k text) m → ⊥

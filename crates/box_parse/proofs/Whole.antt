@@ -7,7 +7,7 @@ use Rattle.box_parse.proofs.Answers.{IsAnswer, IsDeadEnd, opens_some}
 use Rattle.box_parse.proofs.Choosing.{skip_end, skip_space, skip_other}
 use Rattle.box_parse.proofs.Exact.{Reads, reads_after, reads_head, reads_mapped, reads_list, reads_case, reads_exp}
 use Rattle.box_parse.proofs.Naming.{reads_name, agree_take}
-use Rattle.box_parse.specs.Mirror.{Refusal, bad, deep, ◌>>=◌, skip, rest_from, command_at, whole_at}
+use Rattle.box_parse.specs.inner.ReaderOnLists.{Refusal, bad, deep, ◌>>=◌, skip, rest_from, command_at, whole_at}
 use Rattle.two_d.proofs.Agree.{agree, IsOpenAt}
 use Rattle.two_d.proofs.Fits.{command_fits, command_is}
 use Rattle.two_d.proofs.Heads.{Head, send, case, split, called}

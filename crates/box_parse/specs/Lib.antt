@@ -1,3 +1,3 @@
-pub mod Mirror
+pub mod inner
 pub mod Refusals
 pub mod Views

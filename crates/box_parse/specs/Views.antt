@@ -9,8 +9,8 @@ use Rattle.two_d.specs.declared.command.Side.{Side}
 abbrev pub out_of : Exp × Side → Tree × Side
 out_of out = (tree_of out.0, out.1)
 
-abbrev pub outs_of : Vec (Exp × Side) Global → List (Tree × Side)
-outs_of outs = map out_of outs.items
+abbrev pub outs_shown : Vec (Exp × Side) Global → List (Tree × Side)
+outs_shown outs = map out_of outs.items
 
 -- the outs, each behind a `,`
 abbrev pub more_outs : List (Tree × Side) → List ℕ

@@ -1,4 +1,4 @@
-ghost use Rattle.box_parse.specs.Mirror.{Gives, whole_at};
+ghost use Rattle.box_parse.specs.inner.ReaderOnLists.{Gives, whole_at};
 ghost use Rattle.box_parse.specs.Refusals.{IsFaultOf};
 ghost use Rattle.std.specs.Prelude.{◌≡◌, ◌⊎◌, ℕ, IfOk, IfErr, MatchResult};
 ghost use Rattle.two_d.specs.Grammar.{IsBad, IsTextOf, IsTooDeep};
@@ -39,7 +39,7 @@ pub fn parse(alloc: Global, text: &[u8]) -> Result<Command, BoxFault>
 }
 
 /// A command, and nothing but spaces behind it.
-#[tactic(auto, unfolding(crate::specs::Mirror::whole_at))]
+#[tactic(auto, unfolding(crate::specs::inner::ReaderOnLists::whole_at))]
 fn whole(alloc: Global, text: &[u8]) -> Result<Command, Stop>
     ensures { Gives form_of result (whole_at 64 text.now) }
 {

@@ -1,11 +1,11 @@
-ghost use Rattle.box_parse.specs.Mirror.{Gives, bare_at, case_at, choose_at, command_at, ended_at, exp_at, first_at, head_at, head_bytes, head_of, innermost_at, inside_at, is_name_byte, leaf_of, list_at, name_at, name_len, named, opens, out_at, outs_at, quoted_at, run, second_at, side_at, tail_at};
+ghost use Rattle.box_parse.specs.inner.ReaderOnLists.{Gives, bare_at, case_at, choose_at, command_at, ended_at, exp_at, first_at, head_at, head_bytes, head_of, innermost_at, inside_at, is_name_byte, leaf_of, list_at, name_at, name_len, named, opens, out_at, outs_at, quoted_at, run, second_at, side_at, tail_at};
 ghost use Rattle.std.specs.Prelude.{◌≡◌, ◌≤◌, List, length, map};
 ghost use Rattle.two_d.proofs.Choices.{best};
 ghost use Rattle.two_d.proofs.Heads.{spelt};
 ghost use Rattle.two_d.proofs.Parts.{other};
 ghost use Rattle.two_d.specs.Names.{IsName};
 ghost use Rattle.two_d.specs.Trees.{form_of, tree_of};
-ghost use Rattle.box_parse.specs.Views.{out_of, outs_of};
+ghost use Rattle.box_parse.specs.Views.{out_of, outs_shown};
 
 use crate::stop::Stop;
 use crate::token::{Token, after_spaces, ends_word};
@@ -21,7 +21,7 @@ pub struct Reader<'t> {
 
 impl<'t> Reader<'t> {
     /// A command whose expressions have at most this number of levels.
-    #[tactic(auto, unfolding(crate::specs::Mirror::command_at))]
+    #[tactic(auto, unfolding(crate::specs::inner::ReaderOnLists::command_at))]
     pub fn command(&mut self, levels: u32) -> Result<Command, Stop>
         ensures { Gives (λ c. (form_of c, self.new.rest.now)) result
             (command_at levels self.old.rest.now) }
@@ -35,9 +35,9 @@ impl<'t> Reader<'t> {
     }
 
     /// Behind `send`.
-    #[tactic(auto, unfolding(crate::specs::Mirror::list_at))]
+    #[tactic(auto, unfolding(crate::specs::inner::ReaderOnLists::list_at))]
     fn list(&mut self, levels: u32) -> Result<Vec<(Exp, Side)>, Stop>
-        ensures { Gives (λ outs. (outs_of outs, self.new.rest.now)) result
+        ensures { Gives (λ outs. (outs_shown outs, self.new.rest.now)) result
             (list_at levels self.old.rest.now) }
     {
         self.choose(&[Token::Bracket])?;
@@ -48,9 +48,9 @@ impl<'t> Reader<'t> {
     }
 
     /// Behind the first `(` of the outs.
-    #[tactic(auto, unfolding(crate::specs::Mirror::outs_at))]
+    #[tactic(auto, unfolding(crate::specs::inner::ReaderOnLists::outs_at))]
     fn outs(&mut self, levels: u32) -> Result<Vec<(Exp, Side)>, Stop>
-        ensures { Gives (λ outs. (outs_of outs, self.new.rest.now)) result
+        ensures { Gives (λ outs. (outs_shown outs, self.new.rest.now)) result
             (outs_at levels self.old.rest.now) }
     {
         let first = self.out(levels, &[Token::South, Token::East])?;
@@ -64,7 +64,7 @@ impl<'t> Reader<'t> {
     }
 
     /// Behind an out to this side and `,`.
-    #[tactic(auto, unfolding(crate::specs::Mirror::second_at))]
+    #[tactic(auto, unfolding(crate::specs::inner::ReaderOnLists::second_at))]
     fn second(&mut self, levels: u32, first: Side) -> Result<(Exp, Side), Stop>
         ensures { Gives (λ out. (out_of out, self.new.rest.now)) result
             (second_at levels first self.old.rest.now) }
@@ -76,7 +76,7 @@ impl<'t> Reader<'t> {
     }
 
     /// Behind the `(` of an out, to one of these sides.
-    #[tactic(auto, unfolding(crate::specs::Mirror::out_at))]
+    #[tactic(auto, unfolding(crate::specs::inner::ReaderOnLists::out_at))]
     fn out(&mut self, levels: u32, sides: &[Token]) -> Result<(Exp, Side), Stop>
         ensures { Gives (λ out. (out_of out, self.new.rest.now)) result
             (out_at levels (map head_of sides.now) self.old.rest.now) }
@@ -88,7 +88,7 @@ impl<'t> Reader<'t> {
         Ok((exp, side))
     }
 
-    #[tactic(auto, unfolding(crate::specs::Mirror::side_at))]
+    #[tactic(auto, unfolding(crate::specs::inner::ReaderOnLists::side_at))]
     fn side(&mut self, sides: &[Token]) -> Result<Side, Stop>
         ensures { Gives (λ side. (side, self.new.rest.now)) result
             (side_at (map head_of sides.now) self.old.rest.now) }
@@ -100,7 +100,7 @@ impl<'t> Reader<'t> {
     }
 
     /// Behind `case`.
-    #[tactic(auto, unfolding(crate::specs::Mirror::case_at))]
+    #[tactic(auto, unfolding(crate::specs::inner::ReaderOnLists::case_at))]
     fn case(&mut self, levels: u32) -> Result<Command, Stop>
         ensures { Gives (λ c. (form_of c, self.new.rest.now)) result
             (case_at levels self.old.rest.now) }
@@ -220,7 +220,7 @@ impl<'t> Reader<'t> {
     }
 
     /// One of these tokens, where no token may stand that opens a level.
-    #[tactic(auto, unfolding(crate::specs::Mirror::innermost_at))]
+    #[tactic(auto, unfolding(crate::specs::inner::ReaderOnLists::innermost_at))]
     fn innermost(&mut self, tokens: &[Token]) -> Result<Token, Stop>
         ensures { Gives (λ t. (head_of t, self.new.rest.now)) result
             (innermost_at (map head_of tokens.now) self.old.rest.now) }
@@ -233,7 +233,7 @@ impl<'t> Reader<'t> {
     }
 
     /// One of these tokens, behind spaces.
-    #[tactic(auto, unfolding(crate::specs::Mirror::choose_at))]
+    #[tactic(auto, unfolding(crate::specs::inner::ReaderOnLists::choose_at))]
     fn choose(&mut self, tokens: &[Token]) -> Result<Token, Stop>
         ensures { Gives (λ t. (head_of t, self.new.rest.now)) result
             (choose_at (map head_of tokens.now) self.old.rest.now) }
@@ -249,7 +249,7 @@ impl<'t> Reader<'t> {
     }
 
     /// A name, behind spaces, in quotation marks or not.
-    #[tactic(auto, unfolding(crate::specs::Mirror::name_at))]
+    #[tactic(auto, unfolding(crate::specs::inner::ReaderOnLists::name_at))]
     fn name(&mut self) -> Result<Name, Stop>
         ensures { Gives (λ name. (name, self.new.rest.now)) result (name_at self.old.rest.now) }
     {
@@ -260,7 +260,7 @@ impl<'t> Reader<'t> {
     }
 
     /// A name and a quotation mark, at the front of this text.
-    #[tactic(auto, unfolding(crate::specs::Mirror::quoted_at))]
+    #[tactic(auto, unfolding(crate::specs::inner::ReaderOnLists::quoted_at))]
     fn quoted(&mut self, text: &'t [u8]) -> Result<Name, Stop>
         ensures { Gives (λ name. (name, self.new.rest.now)) result (quoted_at text.now) }
     {
@@ -274,7 +274,7 @@ impl<'t> Reader<'t> {
     }
 
     /// A name without quotation marks, at the front of this text.
-    #[tactic(auto, unfolding(crate::specs::Mirror::bare_at))]
+    #[tactic(auto, unfolding(crate::specs::inner::ReaderOnLists::bare_at))]
     fn bare(&mut self, text: &'t [u8]) -> Result<Name, Stop>
         ensures { Gives (λ name. (name, self.new.rest.now)) result (bare_at text.now) }
     {
@@ -340,7 +340,7 @@ fn name_of(alloc: Global, bytes: &[u8], left: usize) -> Result<Name, Stop>
 }
 
 /// How many bytes at the front of the text begin a name.
-#[tactic(auto, unfolding(crate::specs::Mirror::name_len))]
+#[tactic(auto, unfolding(crate::specs::inner::ReaderOnLists::name_len))]
 fn name_len(text: &[u8]) -> usize
     ensures len { result ≡ name_len text.now }
     ensures within { result ≤ length text.now }

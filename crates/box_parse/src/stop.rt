@@ -1,4 +1,4 @@
-ghost use Rattle.box_parse.specs.Mirror.{IsWithin, fault_of};
+ghost use Rattle.box_parse.specs.inner.ReaderOnLists.{IsWithin, fault_of};
 ghost use Rattle.std.specs.Prelude.{◌≡◌};
 
 use crate::fault::BoxFault;

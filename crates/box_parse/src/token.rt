@@ -1,4 +1,4 @@
-ghost use Rattle.box_parse.specs.Mirror.{after_head, ends_word, head_bytes, head_of, is_word, skip};
+ghost use Rattle.box_parse.specs.inner.ReaderOnLists.{after_head, ends_word, head_bytes, head_of, is_word, skip};
 ghost use Rattle.std.specs.Prelude.{◌≡◌, MatchOption, Some, None};
 ghost use Rattle.two_d.proofs.Agree.{agree};
 
@@ -75,7 +75,7 @@ impl Token {
     }
 
     /// The text behind the token, where the token stands at its front.
-    #[tactic(auto, unfolding(crate::specs::Mirror::after_head))]
+    #[tactic(auto, unfolding(crate::specs::inner::ReaderOnLists::after_head))]
     pub fn after<'t>(self, text: &'t [u8]) -> Option<&'t [u8]>
         ensures { MatchOption result (after_head (head_of self) text.now ≡ None)
             (λ rest. after_head (head_of self) text.now ≡ Some rest.now) }

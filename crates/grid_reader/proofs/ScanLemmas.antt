@@ -7,12 +7,12 @@ use Rattle.std.proofs.lemmas.List.{get_or-map, length-map, map-append}
 use Rattle.std.proofs.lemmas.List.Elements.{Contains-get_or, Contains-append_left, Contains-push, Contains-push_cases, All-push, All-contains}
 use Rattle.umix_base.specs.declared.place.Place.{Place}
 use Rattle.two_d.specs.Places.{at, Before, Rect, Covers, Within, OnBorder, ShareACell, corner_of}
-use Rattle.two_d.specs.Faults.{Fault}
+use Rattle.two_d.specs.Faults.{TextFault}
 use Rattle.two_d.specs.Figures.{AreLive, AreLiveAmong, IsFree}
 use Rattle.two_d.specs.Reading.{Reading, gave, each_after}
 use Rattle.two_d.proofs.LiveCorners.{IsSearchable, next_before, live_more, live_same, live_widen, live_onward}
 use Rattle.two_d.proofs.InOrder.{each_after_more, each_after_stops}
-use Rattle.grid_reader.specs.Found.{Spans, HasLow, Lays, IsLowest, IsScanned}
+use Rattle.grid_reader.specs.inner.Found.{Spans, HasLow, Lays, IsLowest, IsScanned}
 
 -- the figure of a corner of the list
 figure_of_corner : (fs : List Rect) (q : Place) → Contains (map corner_of fs) q → (f : Rect) × Contains fs f × (corner_of f ≡ q)
@@ -65,7 +65,7 @@ share_in_column e g p w spans high lower top = elim (cases_lt e.top g.top) [
   )
 ]
 
-module _ (Corner : Place → Type 0) (Figure : Place → Rect → Type 0) (read : List Rect → Place → Reading Rect) (searchable : IsSearchable Corner Figure) (first : ℕ) (fs : List Rect) (low : ℕ → Option Rect) where
+module _ (Corner : Place → Type 0) (Figure : Place → Rect → Type 0) (read : List Rect → Place → Reading TextFault Rect) (searchable : IsSearchable Corner Figure) (first : ℕ) (fs : List Rect) (low : ℕ → Option Rect) where
   -- what was found among the places before p
   abbrev pub IsFoundBefore : Place → Type 0
   IsFoundBefore p = IsScanned Corner Figure read (λ q. Before q p) first fs low
@@ -203,14 +203,14 @@ module _ (Corner : Place → Type 0) (Figure : Place → Rect → Type 0) (read 
       )
 
   -- the fault of a live corner is the first of all
-  pub scan_stops : (p : Place) (e : Fault) → IsFoundBefore p → Corner p → IsFree Corner Figure (map corner_of fs) p → read fs p (Err e) → (live : List Place) × AreLive Corner Figure live × each_after read [] live (Err e)
+  pub scan_stops : (p : Place) (e : TextFault) → IsFoundBefore p → Corner p → IsFree Corner Figure (map corner_of fs) p → read fs p (Err e) → (live : List Place) × AreLive Corner Figure live × each_after read [] live (Err e)
   scan_stops p e h corner free stopped =
       let here = live_more Corner Figure (λ q. Before q p) (λ q. Before q (at p.row (p.col + 1))) (map corner_of fs) p h.live (λ q b. b) (next_before p.row p.col) corner free in
       let all = live_onward Corner Figure searchable p.row (p.col + 1) (map corner_of fs ++ p ∷ []) here in
       ((map corner_of fs ++ p ∷ []) ++ all.0, all.1, subst (λ ps. each_after read [] ps (Err e)) (sym (append_assoc (map corner_of fs) (p ∷ []) all.0)) (each_after_stops read [] (map corner_of fs) all.0 fs p e h.given stopped))
 
 -- nothing was found before any corner
-pub scan_starts : (Corner : Place → Type 0) (Figure : Place → Rect → Type 0) (read : List Rect → Place → Reading Rect) (p : Place) (first : ℕ) (low : ℕ → Option Rect) → ((q : Place) → Corner q → Before q p → ⊥) → ((col : ℕ) → first ≤ col → low col ≡ None) → IsScanned Corner Figure read (λ q. Before q p) first [] low
+pub scan_starts : (Corner : Place → Type 0) (Figure : Place → Rect → Type 0) (read : List Rect → Place → Reading TextFault Rect) (p : Place) (first : ℕ) (low : ℕ → Option Rect) → ((q : Place) → Corner q → Before q p → ⊥) → ((col : ℕ) → first ≤ col → low col ≡ None) → IsScanned Corner Figure read (λ q. Before q p) first [] low
 scan_starts Corner Figure read p first low none empty = record {
   live = record {
     in_order = λ i j d below within. absurd (omega arith);

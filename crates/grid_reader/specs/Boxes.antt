@@ -3,8 +3,8 @@ use Rattle.std.specs.Prelude.{◌≡◌, ◌+◌, ◌<◌, ℕ, List, map, Vec}
 use Rattle.std.specs.Global.{Global}
 use Rattle.two_d.specs.Places.{at, Rect, Within, corner_of}
 use Rattle.two_d.specs.Cells.{Grid, cell}
-use Rattle.two_d.specs.Boxes.{BoxShape, HasText, row_text}
-use Rattle.grid_reader.specs.Rects.{plain}
+use Rattle.two_d.specs.Boxes.{BoxShape, HasText, IsBox, row_text}
+use Rattle.grid_reader.specs.inner.Rects.{rect_shown}
 use Rattle.grid_reader.specs.declared.rect.Rect as code
 use Rattle.grid_reader.specs.declared.box_frame.BoxFrame.{BoxFrame}
 
@@ -24,6 +24,11 @@ box_shape b = record { borders = box_rect b; text = b.text.items }
 abbrev pub HasTextOf : Grid → BoxFrame → Type 0
 HasTextOf grid b = HasText grid (box_shape b)
 
+-- one of the boxes of a frame, with its command text
+pub record IsBoxOf (grid : Grid) (f : Rect) (b : BoxFrame) : Type 0 where
+  pub borders : IsBox grid f (corner_of (box_rect b)) (box_rect b)
+  pub text : HasTextOf grid b
+
 -- edges have a row and a column within, and lie within a frame
 pub record Fits (f b : Rect) : Type 0 where
   pub corner : Within f (corner_of b)
@@ -38,5 +43,5 @@ pub record HasCorners (grid : Grid) (b : Rect) : Type 0 where
   pub bottom_right : cell grid (at b.bottom b.right) ≡ 42
 
 -- the inner cells of a rectangle in one row
-abbrev pub row_of : Grid → code.Rect → ℕ → List ℕ
-row_of grid rect row = row_text grid (plain rect) row
+abbrev pub inner_row : Grid → code.Rect → ℕ → List ℕ
+inner_row grid rect row = row_text grid (rect_shown rect) row

@@ -1,12 +1,12 @@
 -- The refusals of this crate as faults of a grid.
 use Rattle.std.specs.Prelude.{Option, Some, None}
 use Rattle.two_d.specs.Faults as fault
-use Rattle.two_d.specs.Faults.{Fault}
+use Rattle.two_d.specs.Faults.{TextFault}
 use Rattle.grid_reader.specs.declared.fault.GridFault.{GridFault}
 use Rattle.grid_reader.specs.declared.fault.GridFault.TheVariants.{TooLong, BadByte, LineTooLong, OpenFrame, FramesMeet, TwoEntries, NoName, OpenBox, BoxesMeet, Memory}
 
 -- the fault of a grid that a refusal tells; want of memory is none
-abbrev pub fault_of : GridFault → Option Fault
+abbrev pub fault_of : GridFault → Option TextFault
 fault_of TooLong = Some fault.too_long
 fault_of (BadByte p) = Some (fault.bad_byte p)
 fault_of (LineTooLong p) = Some (fault.line_too_long p)

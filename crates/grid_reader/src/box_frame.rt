@@ -7,8 +7,8 @@ ghost use Rattle.two_d.specs.Places.{at};
 ghost use Rattle.two_d.specs.Reading.{Gives};
 ghost use Rattle.grid_reader.specs.Faults.{fault_of};
 ghost use Rattle.grid_reader.specs.Frames.{rect_of, IsFrameOf};
-ghost use Rattle.grid_reader.specs.Boxes.{box_rect, box_rects, HasTextOf, Fits, HasCorners, row_of};
-ghost use Rattle.grid_reader.specs.Rects.{plain, Finds};
+ghost use Rattle.grid_reader.specs.Boxes.{box_rect, box_rects, HasTextOf, IsBoxOf, Fits, HasCorners, inner_row};
+ghost use Rattle.grid_reader.specs.inner.Rects.{rect_shown, Finds};
 
 use crate::fault::GridFault;
 use crate::frame::Frame;
@@ -38,7 +38,7 @@ pub struct BoxFrame {
 pub fn boxes(alloc: Global, grid: &Grid, frame: &Frame) -> Result<Vec<BoxFrame>, GridFault>
     requires { IsFrameOf grid.now frame.now }
     ensures read { Gives box_rects fault_of result (boxes_of grid.now (rect_of frame.now)) }
-    ensures texts { IfOk result (λ boxes. All (HasTextOf grid.now) boxes.items) }
+    ensures shown { IfOk result (λ boxes. All (IsBoxOf grid.now (rect_of frame.now)) boxes.items) }
 {
     let frame = Rect {
         top: frame.top,
@@ -62,10 +62,10 @@ struct GridBoxes<'a> {
 }
 
 impl Figures for GridBoxes<'_> {
-    ghost use Rattle.grid_reader.specs.Search.{box_kind};
+    ghost use Rattle.two_d.specs.Boxes.{box_kind};
     ghost use Rattle.two_d.proofs.BoxAt.{boxes_searchable};
 
-    ghost kind = { λ s. box_kind s.grid.now (plain s.frame) };
+    ghost kind = { λ s. box_kind s.grid.now (rect_shown s.frame) };
 
     fn start(&self) -> Place {
         Place {
@@ -102,14 +102,14 @@ impl Figures for GridBoxes<'_> {
         GridFault::BoxesMeet(place)
     }
 
-    ghost searchable = { λ s. boxes_searchable s.grid.now (plain s.frame) };
+    ghost searchable = { λ s. boxes_searchable s.grid.now (rect_shown s.frame) };
 }
 
 /// Whether a `*` with `=` to its east and `!` to its south is at a place within a frame.
 fn is_box_corner(grid: &Grid, frame: &Rect, place: Place) -> bool
     requires row { place.row + 1 < 2 ^ 32 }
     requires col { place.col + 1 < 2 ^ 32 }
-    ensures { IsTrue result ↔ IsBoxCorner grid.now (plain frame.now) place }
+    ensures { IsTrue result ↔ IsBoxCorner grid.now (rect_shown frame.now) place }
 {
     let Place { row, col } = place;
     frame.has_within(place)
@@ -122,7 +122,7 @@ fn is_box_corner(grid: &Grid, frame: &Rect, place: Place) -> bool
 fn edges_at(grid: &Grid, frame: &Rect, corner: Place) -> Option<Rect>
     requires row { corner.row + 1 < 2 ^ 32 }
     requires col { corner.col + 1 < 2 ^ 32 }
-    ensures edges { Finds (IsBox grid.now (plain frame.now) corner) result }
+    ensures edges { Finds (IsBox grid.now (rect_shown frame.now) corner) result }
     ensures narrow { IfSome result (λ b. b.right ≤ 4096) }
 {
     let Place {
@@ -145,7 +145,7 @@ fn edges_at(grid: &Grid, frame: &Rect, corner: Place) -> Option<Rect>
 fn fits(frame: &Rect, edges: &Rect) -> bool
     requires left { edges.now.left + 1 < 2 ^ 32 }
     requires top { edges.now.top + 1 < 2 ^ 32 }
-    ensures { IsTrue result ↔ Fits (plain frame.now) (plain edges.now) }
+    ensures { IsTrue result ↔ Fits (rect_shown frame.now) (rect_shown edges.now) }
 {
     let Rect {
         top,
@@ -165,7 +165,7 @@ fn fits(frame: &Rect, edges: &Rect) -> bool
 
 /// Whether a `*` is at the three corners behind the first.
 fn has_corners(grid: &Grid, edges: &Rect) -> bool
-    ensures corners { IsTrue result ↔ HasCorners grid.now (plain edges.now) }
+    ensures corners { IsTrue result ↔ HasCorners grid.now (rect_shown edges.now) }
     ensures narrow { IsTrue result → edges.now.right ≤ 4096 }
 {
     let Rect {
@@ -254,7 +254,7 @@ fn is_right(grid: &Grid, col: u32, top: u32, bottom: u32) -> bool
 fn box_of(alloc: Global, grid: &Grid, rect: &Rect) -> Result<BoxFrame, AllocError>
     requires wide { rect.now.left + 1 < rect.now.right }
     requires high { rect.now.top + 1 < rect.now.bottom }
-    ensures rect { IfOk result (λ b. box_rect b ≡ plain rect.now) }
+    ensures rect { IfOk result (λ b. box_rect b ≡ rect_shown rect.now) }
     ensures text { IfOk result (HasTextOf grid.now) }
 {
     let mut text = Vec::new(alloc);
@@ -275,7 +275,7 @@ fn box_of(alloc: Global, grid: &Grid, rect: &Rect) -> Result<BoxFrame, AllocErro
 /// Adds the inner cells of a box in one row.
 fn push_row(text: &mut Vec<u8>, grid: &Grid, rect: &Rect, row: u32) -> Result<(), AllocError>
     requires { rect.now.left < rect.now.right }
-    ensures { OnOk result (text.new.items ≡ text.old.items ++ row_of grid.now rect.now row) }
+    ensures { OnOk result (text.new.items ≡ text.old.items ++ inner_row grid.now rect.now row) }
 {
     for col in rect.left + 1..rect.right {
         text.push(grid.cell(Place { row, col }))?;

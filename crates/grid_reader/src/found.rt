@@ -1,7 +1,7 @@
 ghost use Rattle.std.specs.Prelude.{◌≡◌, ℕ, ◌≤◌, ◌<◌, ◌++◌, ◌∷◌, [], ◌↔◌, IsTrue, OnOk, MatchOption, Some, None, option_map, slice_index_or, ◌⊎◌, ◌+◌, ◌^◌};
 ghost use Rattle.two_d.specs.Places.{Within};
-ghost use Rattle.grid_reader.specs.Rects.{plain, plains};
-ghost use Rattle.grid_reader.specs.Found.{figures, lowest, HasLow, LaysIn, IsInside, AgreeOutside};
+ghost use Rattle.grid_reader.specs.inner.Rects.{rect_shown, plains};
+ghost use Rattle.grid_reader.specs.inner.Found.{figures, lowest, HasLow, LaysIn, IsInside, AgreeOutside};
 
 use crate::rect::Rect;
 use std::alloc::{AllocError, Global};
@@ -47,7 +47,7 @@ impl Found {
     pub fn has_low(&self, figure: &Rect) -> bool
         requires first { self.now.first ≤ figure.now.left }
         requires last { figure.now.right + 1 < 2 ^ 32 }
-        ensures { IsTrue result ↔ HasLow (lowest self.now) (plain figure.now) }
+        ensures { IsTrue result ↔ HasLow (lowest self.now) (rect_shown figure.now) }
     {
         for col in figure.left..figure.right + 1 {
             if let Some(other) = self.lowest_in(col)
@@ -63,8 +63,8 @@ impl Found {
     pub fn add(&mut self, figure: Rect) -> Result<(), Memory>
         requires first { self.old.first ≤ figure.left }
         requires wide { figure.left ≤ figure.right }
-        ensures figures { OnOk result (figures self.new ≡ figures self.old ++ plain figure ∷ []) }
-        ensures lowest { OnOk result (LaysIn self.old self.new (plain figure)) }
+        ensures figures { OnOk result (figures self.new ≡ figures self.old ++ rect_shown figure ∷ []) }
+        ensures lowest { OnOk result (LaysIn self.old self.new (rect_shown figure)) }
         ensures first { OnOk result (self.new.first ≡ self.old.first) }
     {
         let from = (figure.left - self.first) as usize;
@@ -76,7 +76,7 @@ impl Found {
 
     fn lowest_in(&self, col: u32) -> Option<Rect>
         requires { self.now.first ≤ col }
-        ensures { option_map plain result ≡ lowest self.now col }
+        ensures { option_map rect_shown result ≡ lowest self.now col }
     {
         self.lowest
             .get((col - self.first) as usize)

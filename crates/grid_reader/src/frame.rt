@@ -1,4 +1,4 @@
-ghost use Rattle.std.specs.Prelude.{◌≡◌, ℕ, ◌+◌, ◌-◌, ◌≤◌, ◌<◌, ◌^◌, ◌==◌, IsTrue, ◌↔◌, MatchOption, IfOk, IfSome, filter, slice_get, map, All};
+ghost use Rattle.std.specs.Prelude.{◌≡◌, ℕ, ◌+◌, ◌-◌, ◌≤◌, ◌<◌, ◌^◌, ◌==◌, IsTrue, ◌↔◌, MatchOption, IfOk, IfSome, filter, slice_get, map, All, Ok};
 ghost use Rattle.std.specs.List.{range_with_len};
 ghost use Rattle.two_d.specs.Cells.{cell};
 ghost use Rattle.two_d.specs.Frames.{IsTopByte, IsSideByte, IsCorner, IsFrame, InRow, InColumn, frames_of, columns_with, rows_with, one_entry_a_side};
@@ -7,7 +7,7 @@ ghost use Rattle.two_d.specs.Places.{at, corner_of, inner_columns, inner_rows};
 ghost use Rattle.two_d.specs.Reading.{Gives};
 ghost use Rattle.grid_reader.specs.Faults.{fault_of};
 ghost use Rattle.grid_reader.specs.Frames.{rect_of, rects_of, IsFrameOf};
-ghost use Rattle.grid_reader.specs.Rects.{plain, Finds};
+ghost use Rattle.grid_reader.specs.inner.Rects.{rect_shown, Finds};
 
 use crate::fault::GridFault;
 use crate::grid::Grid;
@@ -40,6 +40,7 @@ pub struct Frame {
 pub fn frames(alloc: Global, grid: &Grid) -> Result<Vec<Frame>, GridFault>
     ensures read { Gives rects_of fault_of result (frames_of grid.now) }
     ensures shown { IfOk result (λ frames. All (IsFrameOf grid.now) frames.items) }
+    ensures entries { IfOk result (λ frames. All (λ frame. one_entry_a_side grid.now (rect_of frame) (Ok tt)) frames.items) }
 {
     let rects = find(alloc, &GridFrames { grid })?;
     let mut frames = Vec::new(alloc);
@@ -56,7 +57,7 @@ struct GridFrames<'a> {
 }
 
 impl Figures for GridFrames<'_> {
-    ghost use Rattle.grid_reader.specs.Search.{frame_kind};
+    ghost use Rattle.two_d.specs.Frames.{frame_kind};
     ghost use Rattle.two_d.proofs.FrameAt.{frames_searchable};
 
     ghost kind = { λ s. frame_kind s.grid.now };
@@ -219,7 +220,7 @@ fn is_right(grid: &Grid, col: u32, top: u32, bottom: u32) -> bool
 fn one_entry_a_side(alloc: Global, grid: &Grid, frame: &Rect) -> Result<(), GridFault>
     requires wide { frame.now.left < frame.now.right }
     requires high { frame.now.top < frame.now.bottom }
-    ensures { Gives (λ _. tt) fault_of result (one_entry_a_side grid.now (plain frame.now)) }
+    ensures { Gives (λ _. tt) fault_of result (one_entry_a_side grid.now (rect_shown frame.now)) }
 {
     let norths = columns_of(alloc, grid, frame, frame.top, b'|')?;
     if let Some(col) = second(&norths) {
@@ -246,8 +247,8 @@ fn second(numbers: &[u32]) -> Option<u32>
 
 /// The frame with these borders, with its entries and exits.
 fn frame_of(alloc: Global, grid: &Grid, rect: &Rect) -> Result<Frame, AllocError>
-    requires { IsFrame grid.now (corner_of (plain rect.now)) (plain rect.now) }
-    ensures rect { IfOk result (λ frame. rect_of frame ≡ plain rect.now) }
+    requires { IsFrame grid.now (corner_of (rect_shown rect.now)) (rect_shown rect.now) }
+    ensures rect { IfOk result (λ frame. rect_of frame ≡ rect_shown rect.now) }
     ensures shown { IfOk result (IsFrameOf grid.now) }
 {
     let norths = columns_of(alloc, grid, rect, rect.top, b'|')?;
@@ -273,7 +274,7 @@ fn columns_of(
     byte: u8,
 ) -> Result<Vec<u32>, AllocError>
     requires { rect.now.left < rect.now.right }
-    ensures { IfOk result (λ v. v.items ≡ columns_with grid.now row byte (plain rect.now)) }
+    ensures { IfOk result (λ v. v.items ≡ columns_with grid.now row byte (rect_shown rect.now)) }
 {
     (rect.left + 1..rect.right)
         .filter(|col| grid.cell(Place { row, col: *col }) == byte)
@@ -289,7 +290,7 @@ fn rows_of(
     byte: u8,
 ) -> Result<Vec<u32>, AllocError>
     requires { rect.now.top < rect.now.bottom }
-    ensures { IfOk result (λ v. v.items ≡ rows_with grid.now col byte (plain rect.now)) }
+    ensures { IfOk result (λ v. v.items ≡ rows_with grid.now col byte (rect_shown rect.now)) }
 {
     (rect.top + 1..rect.bottom)
         .filter(|row| grid.cell(Place { row: *row, col }) == byte)

@@ -1,6 +1,6 @@
 ghost use Rattle.std.specs.Prelude.{◌↔◌, IsTrue};
 ghost use Rattle.two_d.specs.Places.{Within};
-ghost use Rattle.grid_reader.specs.Rects.{plain};
+ghost use Rattle.grid_reader.specs.inner.Rects.{rect_shown};
 
 use umix_base::Place;
 
@@ -16,7 +16,7 @@ pub struct Rect {
 impl Rect {
     /// Whether a place lies strictly within the borders.
     pub fn has_within(&self, at: Place) -> bool
-        ensures { IsTrue result ↔ Within (plain self.now) at }
+        ensures { IsTrue result ↔ Within (rect_shown self.now) at }
     {
         self.top < at.row && at.row < self.bottom && self.left < at.col && at.col < self.right
     }

@@ -5,8 +5,9 @@ ghost use Rattle.two_d.specs.Places.{at, corner_of};
 ghost use Rattle.two_d.specs.Reading.{Gives, Refuses};
 ghost use Rattle.two_d.proofs.LiveCorners.{IsSearchable};
 ghost use Rattle.grid_reader.specs.Faults.{fault_of};
-ghost use Rattle.grid_reader.specs.Rects.{plain, rects_in, Finds};
-ghost use Rattle.grid_reader.specs.Search.{Kind, reading_of, AreShown, next_to, IsFoundBefore};
+ghost use Rattle.grid_reader.specs.inner.Rects.{rect_shown, rects_in, Finds};
+ghost use Rattle.grid_reader.specs.inner.Search.{AreShown, next_to, IsFoundBefore};
+ghost use Rattle.two_d.specs.Figures.{Kind, all_of};
 
 use crate::fault::GridFault;
 use crate::found::Found;
@@ -46,8 +47,8 @@ pub trait Figures {
 
     /// Tries what else is asked of a figure.
     fn check(&self, alloc: Global, figure: &Rect) -> Result<(), GridFault>
-        requires { (kind self.now).figure (corner_of (plain figure.now)) (plain figure.now) }
-        ensures { Gives (λ _. tt) fault_of result ((kind self.now).further (plain figure.now)) };
+        requires { (kind self.now).figure (corner_of (rect_shown figure.now)) (rect_shown figure.now) }
+        ensures { Gives (λ _. tt) fault_of result ((kind self.now).further (rect_shown figure.now)) };
 
     /// Why a corner without a figure is refused.
     fn open_at(&self, place: Place) -> GridFault
@@ -63,7 +64,7 @@ pub trait Figures {
 /// The figures of the corners that are strictly within no earlier figure, in reading order, or the
 /// first fault. Takes time linear in the cells that it goes over and in the borders of the figures.
 pub fn find<F: Figures>(alloc: Global, figures: &F) -> Result<Vec<Rect>, GridFault>
-    ensures read { Gives rects_in fault_of result (reading_of (F.kind figures.now)) }
+    ensures read { Gives rects_in fault_of result (all_of (F.kind figures.now)) }
     ensures shown { IfOk result (λ found. AreShown (F.kind figures.now) (rects_in found)) }
 {
     let start = figures.start();
@@ -89,7 +90,7 @@ fn step<F: Figures>(
     requires col { place.col + 1 < 2 ^ 32 }
     ensures ok { OnOk result (IsFoundBefore (F.kind figures.now) (next_to place) found.new) }
     ensures first { OnOk result (found.new.first ≡ found.old.first) }
-    ensures err { IfErr result (λ e. Refuses (reading_of (F.kind figures.now)) (fault_of e)) }
+    ensures err { IfErr result (λ e. Refuses (all_of (F.kind figures.now)) (fault_of e)) }
 {
     if !figures.is_corner(place) || found.has_within(place) {
         return Ok(());

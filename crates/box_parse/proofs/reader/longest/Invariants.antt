@@ -1,5 +1,5 @@
 use Rattle.std.proofs.Common.{◌≡◌, ◌≤◌, drop, length, map, max}
-use Rattle.box_parse.specs.Mirror.{head_of}
+use Rattle.box_parse.specs.inner.ReaderOnLists.{head_of}
 use Rattle.two_d.proofs.Choices.{best}
 use Rattle.two_d.proofs.Heads.{spelt}
 use Rattle.box_parse.proofs.reader.longest.Given as goal

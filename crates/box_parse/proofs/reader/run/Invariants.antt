@@ -1,5 +1,5 @@
 use Rattle.std.proofs.Common.{◌≡◌, ◌+◌, ◌-◌, ◌≤◌, drop, length}
-use Rattle.box_parse.specs.Mirror.{run}
+use Rattle.box_parse.specs.inner.ReaderOnLists.{run}
 use Rattle.box_parse.proofs.reader.run.Given as goal
 
 abbrev pub invariant-loop-len : goal.invariant-loop-len

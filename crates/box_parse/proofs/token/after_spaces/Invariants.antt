@@ -1,5 +1,5 @@
 use Rattle.std.proofs.Common.{◌≡◌, length}
-use Rattle.box_parse.specs.Mirror.{skip}
+use Rattle.box_parse.specs.inner.ReaderOnLists.{skip}
 use Rattle.box_parse.proofs.token.after_spaces.Given as goal
 
 abbrev pub invariant-loop-rest : goal.invariant-loop-rest

@@ -2,13 +2,13 @@ use Rattle.std.proofs.Common.{◌≡◌, ◌+◌, ◌-◌, ◌++◌, ◌∷◌, 
 use Rattle.std.specs.List.{range_with_len, join_with_byte}
 use Rattle.std.proofs.lemmas.List.FromFn.{map-range_with_len_more, length-map-range_with_len}
 use Rattle.two_d.specs.Boxes.{row_text}
-use Rattle.grid_reader.specs.Rects.{plain}
+use Rattle.grid_reader.specs.inner.Rects.{rect_shown}
 use Rattle.grid_reader.proofs.Joined.{join-push}
 use Rattle.grid_reader.proofs.box_frame.box_of.Goals as goal
 
 pub loop-row-preserved : goal.loop-row-preserved
 loop-row-preserved c =
-    let row_at = row_text c.args.grid.now (plain c.args.rect.now) in
+    let row_at = row_text c.args.grid.now (rect_shown c.args.rect.now) in
     let from = c.args.rect.now.top + 1 in
     let n = c.loop-row.row - c.args.rect.now.top - 1 in
     let count : n + 1 ≡ c.loop-row.row + 1 - c.args.rect.now.top - 1 = omega arith in

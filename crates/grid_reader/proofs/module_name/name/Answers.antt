@@ -5,7 +5,8 @@ use Rattle.two_d.specs.Names.{IsName, IsNameByte}
 use Rattle.two_d.specs.Places.{at, Rect, corner_of}
 use Rattle.two_d.specs.Reading.{found, missing}
 use Rattle.grid_reader.specs.Frames.{rect_of}
-use Rattle.grid_reader.proofs.NameLemmas.{border_ends, name_is_run}
+use Rattle.grid_reader.proofs.NameLemmas.{border_ends}
+use Rattle.two_d.proofs.SomeGrid.{name_is_run}
 use Rattle.grid_reader.proofs.module_name.name.Goals as goal
 
 -- the run ends, at the right border if not before

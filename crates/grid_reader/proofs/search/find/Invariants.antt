@@ -1,6 +1,6 @@
 use Rattle.std.proofs.Common.{◌≡◌}
 use Rattle.two_d.specs.Places.{at}
-use Rattle.grid_reader.specs.Search.{IsFoundBefore}
+use Rattle.grid_reader.specs.inner.Search.{IsFoundBefore}
 use Rattle.grid_reader.proofs.search.find.Given as goal
 
 abbrev pub invariant-rows : goal.invariant-rows

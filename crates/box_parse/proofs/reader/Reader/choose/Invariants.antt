@@ -1,5 +1,5 @@
 use Rattle.std.proofs.Common.{◌≡◌, drop, map}
-use Rattle.box_parse.specs.Mirror.{Refusal, choose_from, head_of}
+use Rattle.box_parse.specs.inner.ReaderOnLists.{Refusal, choose_from, head_of}
 use Rattle.box_parse.proofs.reader.Reader.choose.Given as goal
 
 abbrev pub invariant-loop-token : goal.invariant-loop-token

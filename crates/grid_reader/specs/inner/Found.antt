@@ -3,10 +3,11 @@ use Rattle.std.specs.Prelude.{◌≡◌, ℕ, ◌-◌, ◌<◌, ◌≤◌, ◌�
 use Rattle.umix_base.specs.declared.place.Place.{Place}
 use Rattle.two_d.specs.Places.{Rect, ShareACell, corner_of}
 use Rattle.two_d.specs.Figures.{AreLiveAmong}
+use Rattle.two_d.specs.Faults.{TextFault}
 use Rattle.two_d.specs.Reading.{Reading, each_after}
 use Rattle.grid_reader.specs.declared.found.Found.{Found}
 use Rattle.grid_reader.specs.declared.rect.Rect as code
-use Rattle.grid_reader.specs.Rects.{plain, plains}
+use Rattle.grid_reader.specs.inner.Rects.{rect_shown, plains}
 
 -- the figures that were found
 abbrev pub figures : Found → List Rect
@@ -24,7 +25,7 @@ AgreeOutside from to old new =
 
 -- the figure that the table has for a column
 abbrev pub lowest : Found → ℕ → Option Rect
-lowest found col = option_map plain (slice_index_or found.lowest.items (col - found.first) None)
+lowest found col = option_map rect_shown (slice_index_or found.lowest.items (col - found.first) None)
 
 -- the column is one of the rectangle's
 abbrev pub Spans : Rect → ℕ → Type 0
@@ -52,7 +53,7 @@ IsLowest fs col low =
 
 -- the figures fs are those of the live corners among the places that were passed
 pub record IsScanned (Corner : Place → Type 0) (Figure : Place → Rect → Type 0)
-    (read : List Rect → Place → Reading Rect) (Passed : Place → Type 0) (first : ℕ) (fs : List Rect)
+    (read : List Rect → Place → Reading TextFault Rect) (Passed : Place → Type 0) (first : ℕ) (fs : List Rect)
     (low : ℕ → Option Rect) : Type 0 where
   pub live : AreLiveAmong Corner Figure Passed (map corner_of fs)
   pub shown : All (λ f. Figure (corner_of f) f) fs

@@ -5,12 +5,12 @@ use Rattle.two_d.specs.Places as places
 use Rattle.grid_reader.specs.declared.rect.Rect.{Rect}
 
 -- a rectangle of the code, as one of the definitions
-abbrev pub plain : Rect → places.Rect
-plain r = record { top = r.top; left = r.left; bottom = r.bottom; right = r.right }
+abbrev pub rect_shown : Rect → places.Rect
+rect_shown r = record { top = r.top; left = r.left; bottom = r.bottom; right = r.right }
 
 -- each of a list
 abbrev pub plains : List Rect → List places.Rect
-plains rs = map plain rs
+plains rs = map rect_shown rs
 
 -- the rectangles of a vector
 abbrev pub rects_in : Vec Rect Global → List places.Rect
@@ -18,4 +18,4 @@ rects_in rs = plains rs.items
 
 -- the one rectangle that has the property was found, or there is none
 abbrev pub Finds : (places.Rect → Type 0) → Option Rect → Type 0
-Finds P found = MatchOption found ((f : places.Rect) → P f → ⊥) (λ f. P (plain f))
+Finds P found = MatchOption found ((f : places.Rect) → P f → ⊥) (λ f. P (rect_shown f))
