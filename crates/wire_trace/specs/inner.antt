@@ -1,0 +1,11 @@
+pub mod Areas
+pub mod Ends
+pub mod Lists
+pub mod PortsAnswer
+pub mod Positions
+pub mod Sheets
+pub mod Sides
+pub mod Starts
+pub mod Strays
+pub mod Traces
+pub mod Ways
