@@ -1,0 +1,13 @@
+pub mod StartsOne
+pub mod ReadModules
+pub mod Sums
+pub mod Packing
+pub mod TextWeight
+pub mod FiguresRead
+pub mod ProgramWeight
+pub mod ProgramsRead
+pub mod Telling
+pub mod Building
+pub mod WholeReading
+pub mod ModuleAt
+pub mod ModulesRead

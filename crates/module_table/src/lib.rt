@@ -1,0 +1,16 @@
+//! The whole check of a drawn program: its modules, each with its boxes and its wires, or its first
+//! fault, as the definitions in `two_d` say.
+#![tactic(auto)]
+
+mod checking;
+mod commands;
+mod corners;
+mod fault;
+mod modules;
+mod shape;
+
+pub use checking::check;
+pub use fault::CheckFault;
+
+#[cfg(test)]
+mod tests;
