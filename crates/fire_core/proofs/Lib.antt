@@ -1,0 +1,17 @@
+pub mod ActLemmas
+pub mod BeginLemmas
+pub mod CoreLemmas
+pub mod CountLemmas
+pub mod EndLemmas
+pub mod FireLemmas
+pub mod FrameLemmas
+pub mod KeptLemmas
+pub mod LookLemmas
+pub mod MarkLemmas
+pub mod OutcomeLemmas
+pub mod ReadyLemmas
+pub mod RowLemmas
+pub mod RowReady
+pub mod StartLemmas
+pub mod StateLemmas
+pub mod TableLemmas

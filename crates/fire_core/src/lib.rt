@@ -1,0 +1,16 @@
+//! Evaluation, event by event: instances, what their wires carry, and what is ready.
+#![tactic(auto)]
+
+mod act;
+mod evaluation;
+mod event;
+mod instances;
+mod kept;
+pub mod laws;
+mod look;
+mod outcomes;
+mod ready;
+mod rows;
+
+pub use evaluation::Core;
+pub use event::Event;

@@ -1,0 +1,3 @@
+pub mod FiringLemmas
+pub mod RunLemmas
+pub mod PickLemmas

@@ -1,0 +1,10 @@
+//! Evaluation in any order of ready events, with a budget and a log.
+#![tactic(auto)]
+
+mod picks;
+mod report;
+mod run;
+
+pub use picks::Picks;
+pub use report::{EvalFault, Report};
+pub use run::eval;
