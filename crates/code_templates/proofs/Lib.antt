@@ -1,0 +1,13 @@
+pub mod Lines
+pub mod Straight
+pub mod BlockLaws
+pub mod PrinterLaws
+pub mod CopyBlock
+pub mod InRuns
+pub mod Public
+pub mod Words
+pub mod Fresh
+pub mod Spent
+pub mod Holding
+pub mod Staying
+pub mod Counts

@@ -1,0 +1,5 @@
+pub mod Lines
+pub mod Rows
+pub mod Templates
+pub mod Laws
+pub mod inner

@@ -1,0 +1,25 @@
+-- The program is that of the module.
+use Rattle.std.specs.Prelude.{◌≡◌, Ok}
+use Rattle.std.proofs.Common.{ap, arith}
+use Rattle.two_d.specs.Programs.{Program, modules_of}
+use Rattle.two_d.specs.Reading.{Then, Gave}
+use Rattle.two_d.specs.Table.{table_of}
+use Rattle.two_d.specs.Weights.{weight}
+use Rattle.two_d.specs.inner.TableParts.{uses_of, cycles_of}
+use Rattle.two_d.proofs.GoodTable.{table_parts}
+use Rattle.two_d.proofs.InOrder.{gave_is, then_ok}
+use Rattle.lower_plan.proofs.tests.plans_of.Goals as goal
+
+-- what the table gives are its modules
+given : (P Q : Program) → table_of P (Ok Q) → Q ≡ P
+given P Q table =
+    let (u, uses, rest) = then_ok (uses_of P) (λ _. Then (cycles_of P) (λ _. Gave P)) Q (table_parts P (Ok Q) table) in
+    let (v, rings, last) = then_ok (cycles_of P) (λ _. Gave P) Q rest in
+    let same = gave_is P (Ok Q) last in
+    cc
+
+pub plans-requires : goal.plans-requires
+plans-requires c =
+    let same = given (modules_of c.in_ok-modules.modules.items) c.in_ok-program.program c.in_ok-program.ensures in
+    let one = ap (λ ms. weight (modules_of ms)) c.in_ok-modules.ensures.items in
+    omega (arith, ap weight same, one, c.requires)
