@@ -1,0 +1,11 @@
+pub mod Stands
+pub mod Entered
+pub mod KnownOutcomes
+pub mod BlocksAlone
+pub mod Tables
+pub mod Layouts
+pub mod Expressions
+pub mod Boxes
+pub mod Blocks
+pub mod Plans
+pub mod inner

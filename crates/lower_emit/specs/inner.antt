@@ -1,0 +1,11 @@
+pub mod Stretches
+pub mod Building
+pub mod Frames
+pub mod Sorts
+pub mod Ends
+pub mod Uses
+pub mod Firing
+pub mod Trips
+pub mod Codes
+pub mod Plans
+pub mod Making

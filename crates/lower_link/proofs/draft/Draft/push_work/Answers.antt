@@ -1,0 +1,7 @@
+-- The template says its operators.
+use Rattle.code_templates.specs.Templates as code
+use Rattle.lower_link.proofs.Adding.{adds_said}
+use Rattle.lower_link.proofs.draft.Draft.push_work.Goals as goal
+
+pub returns : goal.returns
+returns c = adds_said c.put.result c.args.self.now c.put.new.self _ _ (code.push_work c.args.place) c.put.ensures (c.push_work.ensures.operators c.args.place _)

@@ -1,0 +1,4 @@
+pub mod Realises
+pub mod Follows
+pub mod Completes
+pub mod inner

@@ -1,0 +1,9 @@
+pub mod Lines
+pub mod Printer
+pub mod Depth
+pub mod Boot
+pub mod Made
+pub mod Drafts
+pub mod Tables
+pub mod Linking
+pub mod Scrolls
