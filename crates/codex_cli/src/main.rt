@@ -37,5 +37,5 @@ fn main(rt: HostRuntime) -> ExitCode {
         &mut out,
         &mut err,
     );
-    ExitCode::from(status as u8)
+    ExitCode::from(status.number())
 }

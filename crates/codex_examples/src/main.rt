@@ -1,4 +1,4 @@
-//! Assembles each example text into a scroll, runs it, and lists the last one.
+//! Assembles and runs each example text, and evaluates, compiles and runs each example grid.
 #![tactic(auto)]
 
 use codex_top::{Status, codex};
@@ -9,7 +9,15 @@ use umix_base::{RealIn, RealOut, RealShelf};
 /// The texts, which lie where the program runs.
 const TEXTS: [&str; 4] = ["hello.s", "count.s", "other.s", "echo.s"];
 
-/// The file that the scroll of each text is written into.
+/// The grids that have an outcome, which lie there too, and how their evaluation ends.
+const GRIDS: [(&str, Status); 4] = [
+    ("number.grid", Status::Done),
+    ("addition.grid", Status::Done),
+    ("reverse.grid", Status::Done),
+    ("stuck.grid", Status::Stuck),
+];
+
+/// The file that each scroll is written into.
 const SCROLL: &str = "example.um";
 
 fn words(alloc: Global, words: &[&str]) -> Result<Vec<String>, AllocError> {
@@ -37,24 +45,33 @@ fn command(rt: &HostRuntime, list: &[&str]) -> Result<Status, AllocError> {
     ))
 }
 
-fn run_all(rt: &HostRuntime) -> Result<Status, AllocError> {
-    for text in TEXTS {
-        let status = command(rt, &["asm", text, SCROLL])?;
-        if status != Status::Done {
-            return Ok(status);
-        }
-        let status = command(rt, &["run", SCROLL])?;
-        if status != Status::Done {
-            return Ok(status);
-        }
+/// Does what the words ask for, or answers the status where it is another than this.
+fn expect(rt: &HostRuntime, list: &[&str], wanted: Status) -> Result<(), Status> {
+    match command(rt, list) {
+        Ok(status) if status == wanted => Ok(()),
+        Ok(status) => Err(status),
+        Err(_) => Err(Status::Memory),
     }
-    command(rt, &["dis", SCROLL])
 }
 
-/// Ends with the number of the first status that isn't `Done`.
+fn run_all(rt: &HostRuntime) -> Result<(), Status> {
+    for text in TEXTS {
+        expect(rt, &["asm", text, SCROLL], Status::Done)?;
+        expect(rt, &["run", SCROLL], Status::Done)?;
+    }
+    expect(rt, &["dis", SCROLL], Status::Done)?;
+    for (grid, ended) in GRIDS {
+        expect(rt, &["eval", grid], ended)?;
+        expect(rt, &["compile", grid, SCROLL], Status::Done)?;
+        expect(rt, &["run", SCROLL], Status::Done)?;
+    }
+    expect(rt, &["trace", "endless.grid", "first", "3"], Status::Budget)
+}
+
+/// Ends with the number of the first status that isn't the one that was wanted, or with 0.
 fn main(rt: HostRuntime) -> ExitCode {
     match run_all(&rt) {
-        Ok(status) => ExitCode::from(status as u8),
-        Err(_) => ExitCode::from(Status::Memory as u8),
+        Ok(()) => ExitCode::from(Status::Done.number()),
+        Err(status) => ExitCode::from(status.number()),
     }
 }

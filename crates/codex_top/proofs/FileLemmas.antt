@@ -1,20 +1,27 @@
 -- What a file holds of which the first bytes were read.
-use Rattle.std.proofs.Common.{◌≡◌, ◌≤◌, ◌<◌, ◌+◌, ◌*◌, ℕ, zero, suc, List, [], ◌∷◌, length, take, min, Option, Some, None, refl, sym, ap, ◌∙◌, arith}
+use Rattle.std.proofs.Common.{◌≡◌, ◌≤◌, ◌<◌, ◌+◌, ◌*◌, ℕ, zero, suc, List, [], ◌∷◌, length, take, min, Option, Some, None, refl, sym, ap, ◌∙◌, subst, arith}
 use Rattle.std.specs.Prelude.{Result, Ok, Err, IfOk, IfErr, Vec, option_map}
 use Rattle.std.specs.Int.{w32, to_be_bytes}
 use Rattle.std.specs.declared.alloc.Global.{Global}
 use Rattle.std.specs.FinMap as map
 use Rattle.std.proofs.lemmas.List.{length-take, length-append}
 use Rattle.umix_base.specs.declared.shelf.ShelfFault.TheVariants as shelf
-use Rattle.umix_base.specs.Causes.{KeepsTelling}
+use Rattle.umix_base.specs.Causes.{KeepsTelling, Rose}
 use Rattle.umix_base.specs.Files.{Files, ReadsFile, WritesFile}
-use Rattle.um_word.specs.Scroll.{scroll}
+use Rattle.um_word.specs.Scroll.{scroll, IsScrollFault}
+use Rattle.um_word.specs.declared.scroll.ScrollFault.{ScrollFault}
+use Rattle.um_word.specs.declared.scroll.ScrollFault.TheVariants.{TooLong, Ragged, Memory}
 use Rattle.codex_top.specs.declared.line.Line.{Line}
 use Rattle.codex_top.specs.Outside.{Shelved, MayHave}
-use Rattle.codex_top.specs.ReadFiles.{FileRead, ScrollRead}
+use Rattle.codex_top.proofs.Pieces.{take_whole}
+use Rattle.um_word.specs.Scroll.{most_scroll_bytes}
+use Rattle.codex_top.specs.ReadFiles.{FileRead, ScrollRead, IsNoScroll, scroll_line}
 use Rattle.codex_top.specs.ReadFiles as reading
-use Rattle.codex_top.specs.TextCommands.{TextRead}
-use Rattle.codex_top.specs.TextCommands as texts
+use Rattle.codex_top.specs.AsmCommand.{TextRead}
+use Rattle.codex_top.specs.AsmCommand as texts
+use Rattle.codex_top.specs.Endings.{End}
+use Rattle.codex_top.specs.Sending.{ScrollWritten}
+use Rattle.codex_top.specs.Sending as sending
 
 -- at least these bytes, and just these where they are fewer than were asked for
 pub record Seen (files : Option Files) (name : List ℕ) (most : ℕ) (bytes : List ℕ) : Type 0 where
@@ -22,12 +29,6 @@ pub record Seen (files : Option Files) (name : List ℕ) (most : ℕ) (bytes : L
   pub has : MayHave files name held
   pub whole : length bytes ≤ most → held ≡ bytes
   pub over : most < length bytes → most < length held
-
-take_whole : (most : ℕ) (held : List ℕ) → length held ≤ most → take most held ≡ held
-take_whole zero [] le = refl
-take_whole zero (x ∷ held) le = absurd (omega (arith, le))
-take_whole (suc most) [] le = refl
-take_whole (suc most) (x ∷ held) le = ap (λ xs. x ∷ xs) (take_whole most held (omega (arith, le)))
 
 seen_in : (files : Files) (name : List ℕ) (most : ℕ) (bytes : List ℕ) (o : Option (List ℕ)) → map.get files name ≡ o → option_map (take (most + 1)) o ≡ Some bytes → Seen (Some files) name most bytes
 seen_in files name most bytes None is e = absurd (let f : option_map (take (most + 1)) None ≡ Some bytes = e in cc)
@@ -65,6 +66,15 @@ no_scroll file most before now _ (reading.had held bytes has whole over) = tt
 no_scroll file most before now _ (reading.unread cause) = reading.unread cause
 no_scroll file most before now _ reading.no_memory = reading.no_memory
 
+-- bytes that are no scroll, in the file of which they are the first ones
+pub refused_as : (file : List ℕ) (before now : Shelved) (bytes : List ℕ) (fault : ScrollFault) → Seen before.files file most_scroll_bytes bytes →
+    IsScrollFault bytes fault → ScrollRead file before now (Err (scroll_line fault))
+refused_as file before now bytes (TooLong count) s why = reading.refused s.held (TooLong count) s.has (s.over why.1)
+refused_as file before now bytes (Ragged count) s why =
+    let is : bytes ≡ s.held = sym (s.whole why.1) in
+    reading.refused s.held (Ragged count) s.has (subst (λ held. IsNoScroll held (Ragged count)) is (why.1, why.0, why.2))
+refused_as file before now bytes Memory s why = reading.no_memory
+
 pub no_text : (file : List ℕ) (most : ℕ) (before now : Shelved) (r : Result (Vec ℕ Global) Line) → FileRead file most before now r →
     IfErr r (λ line. TextRead file before now (Err line))
 no_text file most before now _ (reading.had held bytes has whole over) = tt
@@ -85,3 +95,12 @@ pub files_stay : (name bytes : List ℕ) (files now : Option Files) → WritesFi
 files_stay name bytes None None w k = refl
 files_stay name bytes None (Some now) w k = cc
 files_stay name bytes (Some files) now w k = w
+
+-- a scroll that is written after its text was read
+pub scroll_after : (file words : List ℕ) (before mid now : Shelved) (end : End) → mid.files ≡ before.files → mid.write_faults ≡ before.write_faults →
+    ScrollWritten file words mid now end → ScrollWritten file words before now end
+scroll_after file words before mid now _ files writes (sending.written w) =
+    sending.written (subst (λ held. WritesFile file (scroll words) held now.files (Ok tt)) files w)
+scroll_after file words before mid now _ files writes (sending.cut w rose) =
+    sending.cut (subst (λ held. WritesFile file (scroll words) held now.files (Err shelf.Failed)) files w) (subst (λ n. Rose n now.write_faults) writes rose)
+scroll_after file words before mid now _ files writes (sending.no_memory same) = sending.no_memory (same ∙ files)

@@ -1,10 +1,10 @@
 -- What a sink has received of pieces that are written one after another.
-use Rattle.std.proofs.Common.{◌≡◌, ◌≤◌, ◌<◌, ◌+◌, ℕ, suc, List, ◌++◌, length, take, drop, Option, Some, None, sym, ap, ◌∙◌, arith}
+use Rattle.std.proofs.Common.{◌≡◌, ◌≤◌, ◌<◌, ◌+◌, ℕ, zero, suc, List, [], ◌∷◌, ◌++◌, length, take, drop, Option, Some, None, refl, sym, ap, ◌∙◌, arith}
 use Rattle.std.specs.Option.{option_map}
 use Rattle.std.specs.List.{flat_map}
 use Rattle.std.proofs.Common.{Bor, get_or}
 use Rattle.std.proofs.lemmas.Grind.{flat_map-append}
-use Rattle.std.proofs.lemmas.List.{append_assoc, take-append-drop, take-append-le, length-append}
+use Rattle.std.proofs.lemmas.List.{append_assoc, append-nil, take-append-drop, take-append-le, length-append}
 use Rattle.std.proofs.Math.Seq.{take-append-add, drop-cons}
 
 -- bytes that were written after others
@@ -35,3 +35,15 @@ pieces_around pieces i d lt =
     ap (λ xs. text (take i pieces) ++ text xs) (sym (drop-cons pieces i d lt))
     ∙ sym (flat_map-append (λ piece. piece.now) (take i pieces) (drop i pieces))
     ∙ ap text (take-append-drop i pieces)
+
+-- nothing was written
+pub received_none : (o : Option (List ℕ)) → o ≡ option_map (λ held. held ++ []) o
+received_none None = refl
+received_none (Some held) = ap Some (sym (append-nil held))
+
+-- all of a list
+pub take_whole : {A : Type 0} (most : ℕ) (held : List A) → length held ≤ most → take most held ≡ held
+take_whole zero [] le = refl
+take_whole zero (x ∷ held) le = absurd (omega (arith, le))
+take_whole (suc most) [] le = refl
+take_whole (suc most) (x ∷ held) le = ap (λ xs. x ∷ xs) (take_whole most held (omega (arith, le)))

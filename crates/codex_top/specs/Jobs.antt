@@ -1,9 +1,14 @@
 -- The program's jobs as plain data.
+use Rattle.fire_eval.specs.Evaluation.{choice_of}
 use Rattle.codex_top.specs.declared.words.Job.{Job}
-use Rattle.codex_top.specs.declared.words.Job.TheVariants.{Run, Assemble, List}
+use Rattle.codex_top.specs.declared.words.Job.TheVariants.{Check, Eval, Trace, Compile, Run, Asm, Dis}
 use Rattle.codex_top.specs.Words as plain
 
 abbrev pub work_of : Job → plain.Job
+work_of (Check file) = plain.checks file.now
+work_of (Eval file picks events) = plain.evaluates file.now (choice_of picks) events
+work_of (Trace file picks events) = plain.traces file.now (choice_of picks) events
+work_of (Compile file out) = plain.compiles file.now out.now
 work_of (Run file cycles) = plain.runs file.now cycles
-work_of (Assemble file out) = plain.assembles file.now out.now
-work_of (List file) = plain.lists file.now
+work_of (Asm file out) = plain.assembles file.now out.now
+work_of (Dis file) = plain.lists file.now

@@ -3,6 +3,9 @@ use Rattle.std.specs.Prelude.{◌≡◌, ℕ, ◌≤◌, List, ◌++◌, Option,
 use Rattle.std.specs.FinMap as map
 use Rattle.umix_base.specs.Files.{Files}
 use Rattle.umix_base.specs.Causes.{KeepsTelling}
+use Rattle.umix_base.specs.declared.shelf.Shelf as shelf
+use Rattle.umix_base.specs.declared.source.Source as source
+use Rattle.umix_base.specs.declared.sink.Sink as sink
 
 -- the files, where they are told, and the counts of reads and of writes that failed
 pub record Shelved : Type 0 where
@@ -10,45 +13,52 @@ pub record Shelved : Type 0 where
   pub read_faults : ℕ
   pub write_faults : ℕ
 
--- the rest of the input and what the output has received, where each is told, and the counts of their
--- faults
+-- what a source still has or a sink has received, where it is told, and the count of its faults
+pub record Stream : Type 0 where
+  pub bytes : Option (List ℕ)
+  pub faults : ℕ
+
 pub record Streams : Type 0 where
-  pub input : Option (List ℕ)
-  pub input_faults : ℕ
-  pub output : Option (List ℕ)
-  pub output_faults : ℕ
+  pub input : Stream
+  pub output : Stream
 
-abbrev pub shelved : Option Files → (read_faults write_faults : ℕ) → Shelved
-shelved files read_faults write_faults = record {
-  files = files;
-  read_faults = read_faults;
-  write_faults = write_faults;
-}
+-- what a command is handed beside `err`
+pub record Outside : Type 0 where
+  pub shelf : Shelved
+  pub streams : Streams
 
-abbrev pub streams : Option (List ℕ) → ℕ → Option (List ℕ) → ℕ → Streams
-streams input input_faults output output_faults = record {
-  input = input;
-  input_faults = input_faults;
-  output = output;
-  output_faults = output_faults;
-}
+-- a shelf, a source and a sink as contracts see them
+abbrev pub shelved : {F : Type 0} → shelf.Ghosts F → F → Shelved
+shelved f s = record { files = f.files s; read_faults = f.read_faults s; write_faults = f.write_faults s }
+
+abbrev pub heard : {I : Type 0} → source.Ghosts I → I → Stream
+heard i input = record { bytes = i.rest input; faults = i.faults input }
+
+abbrev pub told : {O : Type 0} → sink.Ghosts O → O → Stream
+told o out = record { bytes = o.written out; faults = o.faults out }
+
+abbrev pub streams : {I O : Type 0} → source.Ghosts I → sink.Ghosts O → I → O → Streams
+streams i o input out = record { input = heard i input; output = told o out }
+
+abbrev pub outside : {F I O : Type 0} → shelf.Ghosts F → source.Ghosts I → sink.Ghosts O → F → I → O → Outside
+outside f i o shelf input out = record { shelf = shelved f shelf; streams = streams i o input out }
 
 -- a shelf may be taken to have this file with these bytes: where it tells its files, it has
 abbrev pub MayHave : Option Files → List ℕ → List ℕ → Type 0
 MayHave None name bytes = Unit {0}
 MayHave (Some files) name bytes = map.get files name ≡ Some bytes
 
--- the output has received these bytes more
-abbrev pub Received : List ℕ → Streams → Streams → Type 0
-Received bytes before now = now.output ≡ option_map (λ held. held ++ bytes) before.output
+-- these bytes more were received
+abbrev pub Received : List ℕ → Stream → Stream → Type 0
+Received bytes before now = now.bytes ≡ option_map (λ held. held ++ bytes) before.bytes
 
 -- no file changed and no write failed
 abbrev pub IsOnlyRead : Shelved → Shelved → Type 0
 IsOnlyRead before now = (now.files ≡ before.files) × (now.write_faults ≡ before.write_faults)
 
--- the input is as before
-abbrev pub IsUnread : Streams → Streams → Type 0
-IsUnread before now = (now.input ≡ before.input) × (now.input_faults ≡ before.input_faults)
+-- no file changed, no write to one failed, and no input was taken
+abbrev pub IsOnlyWritten : Outside → Outside → Type 0
+IsOnlyWritten before now = IsOnlyRead before.shelf now.shelf × (now.streams.input ≡ before.streams.input)
 
 -- No count of faults fell, and nothing began or ceased to tell what it holds.
 pub record IsShelfCounted (before now : Shelved) : Type 0 where
@@ -56,8 +66,14 @@ pub record IsShelfCounted (before now : Shelved) : Type 0 where
   pub reads : before.read_faults ≤ now.read_faults
   pub writes : before.write_faults ≤ now.write_faults
 
+pub record IsStreamCounted (before now : Stream) : Type 0 where
+  pub tells : KeepsTelling before.bytes now.bytes
+  pub later : before.faults ≤ now.faults
+
 pub record AreCounted (before now : Streams) : Type 0 where
-  pub input : KeepsTelling before.input now.input
-  pub output : KeepsTelling before.output now.output
-  pub inputs : before.input_faults ≤ now.input_faults
-  pub outputs : before.output_faults ≤ now.output_faults
+  pub input : IsStreamCounted before.input now.input
+  pub output : IsStreamCounted before.output now.output
+
+pub record IsCounted (before now : Outside) : Type 0 where
+  pub shelf : IsShelfCounted before.shelf now.shelf
+  pub streams : AreCounted before.streams now.streams

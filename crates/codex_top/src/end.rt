@@ -1,33 +1,31 @@
 //! How a command ends.
 
-ghost use Rattle.std.specs.Prelude.{◌≡◌, ℕ, ◌+◌, ◌<◌, ◌^◌};
-ghost use Rattle.codex_top.specs.Endings.{end_of_run};
+ghost use Rattle.std.specs.Prelude.{◌≡◌};
+ghost use Rattle.codex_top.specs.Endings.{status_of_finish};
 
-use crate::line::{Limit, Line};
-use um_machine::Stop;
+use crate::Status;
+use crate::line::Line;
 
-/// How a command ends.
+/// How a command ends that has no line to tell.
 #[derive(Clone, Copy, PartialEq, Eq, Debug, Drop)]
-pub enum End {
+pub enum Finish {
     /// Its whole work is done.
     Done,
-    /// A line tells why not.
-    Stopped(Line),
+    /// An evaluation is stuck, and its text says where.
+    Stuck,
 }
 
-/// The end of a run that had so many cycles to make and stopped after so many were made.
-pub fn end_of(cycles: u64, made: u64, stop: Stop) -> End
-    requires { made + 1 < 2 ^ 64 }
-    ensures { result ≡ end_of_run cycles made stop }
-{
-    match stop {
-        Stop::Halted => End::Done,
-        Stop::Budget => End::Stopped(Line::Budget(cycles)),
-        Stop::ReadFault => End::Stopped(Line::ReadFault),
-        Stop::WriteFault => End::Stopped(Line::WriteFault),
-        Stop::Memory => End::Stopped(Line::NoMemory),
-        Stop::ArraysFull(count) => End::Stopped(Line::Limited(Limit::ArraysFull(count), made + 1)),
-        Stop::WordsFull(count) => End::Stopped(Line::Limited(Limit::WordsFull(count), made + 1)),
-        fault => End::Stopped(Line::Fault(fault, made + 1)),
+/// How a command ends: without a line, or with the line that tells why its work isn't done.
+pub type End = Result<Finish, Line>;
+
+impl Finish {
+    /// The status that goes with it.
+    pub fn status(self) -> Status
+        ensures { result ≡ status_of_finish self }
+    {
+        match self {
+            Finish::Done => Status::Done,
+            Finish::Stuck => Status::Stuck,
+        }
     }
 }

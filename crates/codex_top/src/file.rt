@@ -1,12 +1,15 @@
-//! How the files of a command are read.
+//! How the files of a command are read and written.
 
 ghost use Rattle.std.specs.Prelude.{◌≡◌, ◌≤◌, ◌+◌, ◌<◌, ◌^◌};
-ghost use Rattle.codex_top.specs.Outside.{shelved};
+ghost use Rattle.codex_top.specs.Outside.{shelved, IsShelfCounted};
 ghost use Rattle.codex_top.specs.ReadFiles.{FileRead, ScrollRead};
+ghost use Rattle.codex_top.specs.Sending.{ScrollWritten};
 
-use crate::line::{Line, Refusal};
+use crate::end::{End, Finish};
+use crate::line::Line;
+use crate::refusal::After;
 use std::alloc::Global;
-use um_word::{MOST_SCROLL_BYTES, ScrollFault, words_of};
+use um_word::{MOST_SCROLL_BYTES, ScrollFault, bytes_of, words_of};
 use umix_base::{Shelf, ShelfFault};
 
 /// The bytes of a file, of which at most one more than `most` is read; or the line that tells why there
@@ -19,8 +22,8 @@ pub fn read_file<F: Shelf>(
 ) -> Result<Vec<u8>, Line>
     requires { most + 1 < 2 ^ 64 }
     ensures read { FileRead file.now most
-        (shelved (F.files shelf.old) (F.read_faults shelf.old) (F.write_faults shelf.old))
-        (shelved (F.files shelf.new) (F.read_faults shelf.new) (F.write_faults shelf.new)) result }
+        (shelved F.Shelf shelf.old)
+        (shelved F.Shelf shelf.new) result }
     ensures files { F.files shelf.new ≡ F.files shelf.old }
     ensures later { F.read_faults shelf.old ≤ F.read_faults shelf.new }
     ensures writes { F.write_faults shelf.new ≡ F.write_faults shelf.old }
@@ -32,23 +35,46 @@ pub fn read_file<F: Shelf>(
     }
 }
 
+impl From<ScrollFault> for Line {
+    ghost use Rattle.codex_top.specs.ReadFiles.{scroll_line};
+
+    ghost from_gives = { λ fault line. line ≡ scroll_line fault };
+
+    fn from(fault: ScrollFault) -> Line {
+        match fault {
+            ScrollFault::Ragged(bytes) => Line::refused(31, "Ragged", After::Number(bytes)),
+            ScrollFault::TooLong(_) => Line::refused(32, "ScrollTooLong", After::Nothing),
+            ScrollFault::Memory => Line::NoMemory,
+        }
+    }
+}
+
 /// The words of a file that is a scroll, or the line that tells why there are none.
 pub fn read_scroll<F: Shelf>(alloc: Global, file: &str, shelf: &mut F) -> Result<Vec<u32>, Line>
     ensures read { ScrollRead file.now
-        (shelved (F.files shelf.old) (F.read_faults shelf.old) (F.write_faults shelf.old))
-        (shelved (F.files shelf.new) (F.read_faults shelf.new) (F.write_faults shelf.new)) result }
+        (shelved F.Shelf shelf.old)
+        (shelved F.Shelf shelf.new) result }
     ensures files { F.files shelf.new ≡ F.files shelf.old }
     ensures later { F.read_faults shelf.old ≤ F.read_faults shelf.new }
     ensures writes { F.write_faults shelf.new ≡ F.write_faults shelf.old }
 {
-    let bytes = match read_file(alloc, file, MOST_SCROLL_BYTES, shelf) {
-        Ok(bytes) => bytes,
-        Err(line) => return Err(line),
-    };
-    match words_of(alloc, &bytes) {
-        Ok(words) => Ok(words),
-        Err(ScrollFault::TooLong(_)) => Err(Line::Refused(Refusal::ScrollTooLong)),
-        Err(ScrollFault::Ragged(count)) => Err(Line::Refused(Refusal::Ragged(count))),
-        Err(ScrollFault::Memory) => Err(Line::NoMemory),
+    let bytes = read_file(alloc, file, MOST_SCROLL_BYTES, shelf)?;
+    Ok(words_of(alloc, &bytes)?)
+}
+
+/// Writes the scroll of the words into a file.
+pub fn write_scroll<F: Shelf>(alloc: Global, file: &str, words: &[u32], shelf: &mut F) -> End
+    ensures ends { ScrollWritten file.now words.now
+        (shelved F.Shelf shelf.old)
+        (shelved F.Shelf shelf.new) result }
+    ensures counted { IsShelfCounted
+        (shelved F.Shelf shelf.old)
+        (shelved F.Shelf shelf.new) }
+{
+    let scroll = bytes_of(alloc, words)?;
+    match shelf.write(alloc, file, &scroll) {
+        Ok(()) => Ok(Finish::Done),
+        Err(ShelfFault::Failed) => Err(Line::WriteFault),
+        Err(ShelfFault::Memory) => Err(Line::NoMemory),
     }
 }

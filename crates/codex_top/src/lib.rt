@@ -1,13 +1,23 @@
 //! The program's one call: the words of a command line in, bytes and a status out.
 #![tactic(auto)]
 
+mod asm;
+mod check;
+mod compile;
+mod dis;
 mod end;
+mod eval;
+mod evaluating;
 mod file;
+pub mod laws;
 mod line;
+mod program;
+mod refusal;
 mod run;
+mod sending;
 mod status;
-mod text;
 mod top;
+mod trace;
 mod words;
 
 pub use status::Status;

@@ -1,37 +1,18 @@
 //! The lines that the program prints on `err`.
 
-ghost use Rattle.std.specs.Prelude.{◌≡◌, ℕ, [], ◌∷◌, codes, decimal};
-ghost use Rattle.std.specs.List.{flat_map, concat};
+ghost use Rattle.std.specs.Prelude.{◌≡◌};
 ghost use Rattle.umix_base.specs.Causes.{HasCause, KeepsTelling};
 ghost use Rattle.umix_base.specs.Streams.{Appends};
-ghost use Rattle.codex_top.specs.Lines.{text_of, refusal_pieces, limit_name, limit_count, limit_of, status_of};
+ghost use Rattle.codex_top.specs.Lines.{line_text, limit_name, limit_count, limit_number, counted_name, status_of};
 
 use crate::Status;
+use crate::refusal::{After, Refusal};
+use crate::sending::put_all;
 use array_store::{MOST_ARRAYS, MOST_WORDS};
 use itoa::Buffer;
+use std::alloc::AllocFailed;
 use um_machine::Stop;
-use umix_base::{Failed, Sink};
-
-/// Why a file of a command is refused.
-#[derive(Clone, Copy, PartialEq, Eq, Debug, Drop)]
-pub enum Refusal {
-    /// A scroll whose count of bytes, this one, is no multiple of 4.
-    Ragged(usize),
-    /// A scroll of more than 67,108,864 bytes.
-    ScrollTooLong,
-    /// A text whose line of this number, from 1, isn't of the forms of a line.
-    BadLine(usize),
-    /// A text whose line of this number defines what was defined before.
-    SameLabel(usize),
-    /// A text whose line of this number uses what isn't defined.
-    NoLabel(usize),
-    /// A text whose line of this number has a value that is too large.
-    ValueTooLarge(usize),
-    /// A text of more than 16,777,216 words.
-    TooManyWords,
-    /// A text of more than 300,000,000 bytes.
-    TextTooLong,
-}
+use umix_base::{Failed, Memory, Sink};
 
 /// A limit, and the number that there would be past it.
 #[derive(Clone, Copy, PartialEq, Eq, Debug, Drop)]
@@ -42,8 +23,17 @@ pub enum Limit {
     WordsFull(u64),
 }
 
-/// A line of the program. See "Lines" in docs/COMMANDS.md.
+/// What a budget counts.
 #[derive(Clone, Copy, PartialEq, Eq, Debug, Drop)]
+pub enum Counted {
+    /// Cycles of the machine.
+    Cycles,
+    /// Events of an evaluation.
+    Events,
+}
+
+/// Why a command's work isn't done, as a line tells it. See "Lines" in docs/COMMANDS.md.
+#[derive(Debug, Drop)]
 pub enum Line {
     /// The words are no command.
     Usage,
@@ -53,8 +43,8 @@ pub enum Line {
     Fault(Stop, u64),
     /// The machine met a limit in the cycle of this number, from 1.
     Limited(Limit, u64),
-    /// So many cycles were made, and the work isn't over.
-    Budget(u64),
+    /// So many of these were made, and the work isn't over.
+    Budget(u64, Counted),
     /// A file or the input couldn't be read.
     ReadFault,
     /// The output, a line or a file couldn't be written.
@@ -63,23 +53,23 @@ pub enum Line {
     NoMemory,
 }
 
-impl Refusal {
-    fn put<E: Sink>(&self, err: &mut E) -> Result<(), Failed>
-        ensures appended { Appends (concat (refusal_pieces self.now))
-            (E.written err.old) (E.written err.new) result }
-        ensures tells { KeepsTelling (E.written err.old) (E.written err.new) }
-        ensures cause { HasCause (E.faults err.old) (E.faults err.new) result }
-    {
-        match self {
-            Refusal::Ragged(bytes) => put_numbered(err, b"refused 31 Ragged ", *bytes),
-            Refusal::ScrollTooLong => put_all(err, &[b"refused 32 ScrollTooLong\n"]),
-            Refusal::BadLine(line) => put_numbered(err, b"refused 41 BadLine ", *line),
-            Refusal::SameLabel(line) => put_numbered(err, b"refused 42 SameLabel ", *line),
-            Refusal::NoLabel(line) => put_numbered(err, b"refused 43 NoLabel ", *line),
-            Refusal::ValueTooLarge(line) => put_numbered(err, b"refused 44 ValueTooLarge ", *line),
-            Refusal::TooManyWords => put_all(err, &[b"refused 45 TooManyWords\n"]),
-            Refusal::TextTooLong => put_all(err, &[b"refused 46 TextTooLong\n"]),
-        }
+impl From<Memory> for Line {
+    ghost use Rattle.codex_top.specs.declared.line.Line.TheVariants.{NoMemory};
+
+    ghost from_gives = { λ _ line. line ≡ NoMemory };
+
+    fn from(_memory: Memory) -> Line {
+        Line::NoMemory
+    }
+}
+
+impl<T: Drop> From<AllocFailed<T>> for Line {
+    ghost use Rattle.codex_top.specs.declared.line.Line.TheVariants.{NoMemory};
+
+    ghost from_gives = { λ _ line. line ≡ NoMemory };
+
+    fn from(_failed: AllocFailed<T>) -> Line {
+        Line::NoMemory
     }
 }
 
@@ -103,7 +93,7 @@ impl Limit {
     }
 
     fn limit(&self) -> u64
-        ensures { result ≡ limit_of self.now }
+        ensures { result ≡ limit_number self.now }
     {
         match self {
             Limit::ArraysFull(_) => MOST_ARRAYS,
@@ -112,10 +102,29 @@ impl Limit {
     }
 }
 
-const USAGE: &[u8] =
+impl Counted {
+    fn name(&self) -> &'static str
+        ensures { result.now ≡ counted_name self.now }
+    {
+        match self {
+            Counted::Cycles => "cycles",
+            Counted::Events => "events",
+        }
+    }
+}
+
+/// The line that tells how the program is used.
+pub const USAGE: &[u8] =
     b"usage: check F | eval F [PICKS [N]] | trace F PICKS N | compile F OUT | run F [N] | asm F OUT | dis F | debug F INPUT | selftest N\n";
 
 impl Line {
+    /// The line of a refusal with this number, this name, and this after the name.
+    pub fn refused(number: u8, name: &'static str, after: After) -> Line
+        ensures { result ≡ Line.Refused (record { number = number; name = name.now; after = after }) }
+    {
+        Line::Refused(Refusal::new(number, name, after))
+    }
+
     /// The status that goes with the line.
     pub fn status(&self) -> Status
         ensures { result ≡ status_of self.now }
@@ -125,7 +134,7 @@ impl Line {
             Line::Refused(_) => Status::Refused,
             Line::Fault(..) => Status::MachineFault,
             Line::Limited(..) => Status::Limit,
-            Line::Budget(_) => Status::Budget,
+            Line::Budget(..) => Status::Budget,
             Line::ReadFault => Status::ReadFault,
             Line::WriteFault => Status::WriteFault,
             Line::NoMemory => Status::Memory,
@@ -134,45 +143,16 @@ impl Line {
 
     /// Writes the line, with its LF. After `Failed` a beginning of it was written. Takes no memory.
     pub fn put<E: Sink>(&self, err: &mut E) -> Result<(), Failed>
-        ensures appended { Appends (text_of self.now) (E.written err.old) (E.written err.new) result }
+        ensures appended { Appends (line_text self.now) (E.written err.old) (E.written err.new) result }
         ensures tells { KeepsTelling (E.written err.old) (E.written err.new) }
         ensures cause { HasCause (E.faults err.old) (E.faults err.new) result }
     {
-        let mut first = Buffer::new();
-        let mut second = Buffer::new();
-        let mut third = Buffer::new();
         match self {
             Line::Usage => put_all(err, &[USAGE]),
             Line::Refused(refusal) => refusal.put(err),
-            Line::Fault(stop, cycle) => {
-                let name = stop.name().as_bytes();
-                let cycle = first.format(*cycle).as_bytes();
-                put_all(err, &[b"fault ", name, b" at cycle ", cycle, b"\n"])
-            }
-            Line::Limited(limit, cycle) => {
-                let name = limit.name().as_bytes();
-                let cycle = first.format(*cycle).as_bytes();
-                let count = second.format(limit.count()).as_bytes();
-                let most = third.format(limit.limit()).as_bytes();
-                put_all(
-                    err,
-                    &[
-                        b"limit ",
-                        name,
-                        b" at cycle ",
-                        cycle,
-                        b": ",
-                        count,
-                        b" over ",
-                        most,
-                        b"\n",
-                    ],
-                )
-            }
-            Line::Budget(cycles) => {
-                let cycles = first.format(*cycles).as_bytes();
-                put_all(err, &[b"budget ", cycles, b" cycles\n"])
-            }
+            Line::Fault(stop, cycle) => put_fault(err, stop, *cycle),
+            Line::Limited(limit, cycle) => put_limit(err, limit, *cycle),
+            Line::Budget(count, counted) => put_budget(err, *count, counted),
             Line::ReadFault => put_all(err, &[b"read fault\n"]),
             Line::WriteFault => put_all(err, &[b"write fault\n"]),
             Line::NoMemory => put_all(err, &[b"no memory\n"]),
@@ -180,30 +160,55 @@ impl Line {
     }
 }
 
-// writes the pieces, in order
-fn put_all<E: Sink>(err: &mut E, pieces: &[&[u8]]) -> Result<(), Failed>
-    ensures appended { Appends (flat_map (λ piece. piece.now) pieces.now)
-        (E.written err.old) (E.written err.new) result }
-    ensures tells { KeepsTelling (E.written err.old) (E.written err.new) }
-    ensures cause { HasCause (E.faults err.old) (E.faults err.new) result }
-{
-    for piece in pieces {
-        match err.put(piece) {
-            Ok(()) => {}
-            Err(Failed) => return Err(Failed),
-        }
-    }
-    Ok(())
-}
-
-// writes the text, a number and LF
-fn put_numbered<E: Sink>(err: &mut E, text: &[u8], number: usize) -> Result<(), Failed>
-    ensures appended { Appends (concat (text.now ∷ decimal number ∷ codes "\n" ∷ []))
+fn put_fault<E: Sink>(err: &mut E, stop: &Stop, cycle: u64) -> Result<(), Failed>
+    ensures appended { Appends (line_text (Line.Fault stop.now cycle))
         (E.written err.old) (E.written err.new) result }
     ensures tells { KeepsTelling (E.written err.old) (E.written err.new) }
     ensures cause { HasCause (E.faults err.old) (E.faults err.new) result }
 {
     let mut buffer = Buffer::new();
-    let number = buffer.format(number).as_bytes();
-    put_all(err, &[text, number, b"\n"])
+    let name = stop.name().as_bytes();
+    let cycle = buffer.format(cycle).as_bytes();
+    put_all(err, &[b"fault ", name, b" at cycle ", cycle, b"\n"])
+}
+
+fn put_limit<E: Sink>(err: &mut E, limit: &Limit, cycle: u64) -> Result<(), Failed>
+    ensures appended { Appends (line_text (Line.Limited limit.now cycle))
+        (E.written err.old) (E.written err.new) result }
+    ensures tells { KeepsTelling (E.written err.old) (E.written err.new) }
+    ensures cause { HasCause (E.faults err.old) (E.faults err.new) result }
+{
+    let mut first = Buffer::new();
+    let mut second = Buffer::new();
+    let mut third = Buffer::new();
+    let name = limit.name().as_bytes();
+    let cycle = first.format(cycle).as_bytes();
+    let count = second.format(limit.count()).as_bytes();
+    let most = third.format(limit.limit()).as_bytes();
+    put_all(
+        err,
+        &[
+            b"limit ",
+            name,
+            b" at cycle ",
+            cycle,
+            b": ",
+            count,
+            b" over ",
+            most,
+            b"\n",
+        ],
+    )
+}
+
+fn put_budget<E: Sink>(err: &mut E, count: u64, counted: &Counted) -> Result<(), Failed>
+    ensures appended { Appends (line_text (Line.Budget count counted.now))
+        (E.written err.old) (E.written err.new) result }
+    ensures tells { KeepsTelling (E.written err.old) (E.written err.new) }
+    ensures cause { HasCause (E.faults err.old) (E.faults err.new) result }
+{
+    let mut buffer = Buffer::new();
+    let count = buffer.format(count).as_bytes();
+    let counted = counted.name().as_bytes();
+    put_all(err, &[b"budget ", count, b" ", counted, b"\n"])
 }

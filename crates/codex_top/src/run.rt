@@ -1,13 +1,14 @@
-//! The command that runs a scroll.
+//! The command `run`: runs a scroll.
 
 ghost use Rattle.std.specs.Prelude.{◌≡◌, ◌≤◌, ◌+◌, ◌*◌, ◌<◌, ◌^◌, ℕ, length};
-ghost use Rattle.um_word.specs.Scroll.{scroll};
-ghost use Rattle.codex_top.specs.Outside.{shelved, streams, AreCounted};
-ghost use Rattle.codex_top.specs.RunCommand.{RunEnds, WordsEnd};
+ghost use Rattle.um_word.specs.Scroll.{most_scroll_bytes, scroll};
+ghost use Rattle.codex_top.specs.Limits.{most_made};
+ghost use Rattle.codex_top.specs.Outside.{outside, streams, AreCounted};
+ghost use Rattle.codex_top.specs.RunCommand.{RunCommandEnds, ScrollEnds, end_of_run};
 
-use crate::end::{End, end_of};
+use crate::end::{End, Finish};
 use crate::file::read_scroll;
-use crate::line::Line;
+use crate::line::{Counted, Limit, Line};
 use array_store::{MOST_ARRAYS, MOST_WORDS};
 use std::alloc::Global;
 use um_machine::{Machine, Stop};
@@ -27,23 +28,19 @@ pub fn run<F: Shelf, I: Source, O: Sink>(
     input: &mut I,
     out: &mut O,
 ) -> End
-    requires { cycles ≤ 2 ^ 62 }
-    ensures ends { RunEnds file.now cycles
-        (shelved (F.files shelf.old) (F.read_faults shelf.old) (F.write_faults shelf.old))
-        (shelved (F.files shelf.new) (F.read_faults shelf.new) (F.write_faults shelf.new))
-        (streams (I.rest input.old) (I.faults input.old) (O.written out.old) (O.faults out.old))
-        (streams (I.rest input.new) (I.faults input.new) (O.written out.new) (O.faults out.new)) result }
+    requires { cycles ≤ most_made }
+    ensures ends { RunCommandEnds file.now cycles
+        (outside F.Shelf I.Source O.Sink shelf.old input.old out.old)
+        (outside F.Shelf I.Source O.Sink shelf.new input.new out.new) result }
     ensures files { F.files shelf.new ≡ F.files shelf.old }
     ensures reads { F.read_faults shelf.old ≤ F.read_faults shelf.new }
     ensures writes { F.write_faults shelf.new ≡ F.write_faults shelf.old }
     ensures counted { AreCounted
-        (streams (I.rest input.old) (I.faults input.old) (O.written out.old) (O.faults out.old))
-        (streams (I.rest input.new) (I.faults input.new) (O.written out.new) (O.faults out.new)) }
+        (streams I.Source O.Sink input.old out.old)
+        (streams I.Source O.Sink input.new out.new) }
 {
-    match read_scroll(alloc, file, shelf) {
-        Ok(words) => run_words(alloc, words, cycles, input, out),
-        Err(line) => End::Stopped(line),
-    }
+    let words = read_scroll(alloc, file, shelf)?;
+    run_words(alloc, words, cycles, input, out)
 }
 
 // runs the words of a scroll
@@ -54,21 +51,38 @@ fn run_words<I: Source, O: Sink>(
     input: &mut I,
     out: &mut O,
 ) -> End
-    requires cycles { cycles ≤ 2 ^ 62 }
-    requires words { length (scroll words.items) ≤ 67_108_864 }
-    ensures ends { WordsEnd words.items cycles
-        (streams (I.rest input.old) (I.faults input.old) (O.written out.old) (O.faults out.old))
-        (streams (I.rest input.new) (I.faults input.new) (O.written out.new) (O.faults out.new)) result }
+    requires cycles { cycles ≤ most_made }
+    requires words { length (scroll words.items) ≤ most_scroll_bytes }
+    ensures ends { ScrollEnds words.items cycles
+        (streams I.Source O.Sink input.old out.old)
+        (streams I.Source O.Sink input.new out.new) result }
     ensures counted { AreCounted
-        (streams (I.rest input.old) (I.faults input.old) (O.written out.old) (O.faults out.old))
-        (streams (I.rest input.new) (I.faults input.new) (O.written out.new) (O.faults out.new)) }
+        (streams I.Source O.Sink input.old out.old)
+        (streams I.Source O.Sink input.new out.new) }
 {
     let mut machine = match Machine::new(alloc, words, LIMITS) {
         Ok(machine) => machine,
         // A scroll has fewer words than the limit allows.
         Err(Stop::WordsFull(_)) => unreachable!(),
-        Err(_) => return End::Stopped(Line::NoMemory),
+        Err(_) => return Err(Line::NoMemory),
     };
     let stop = machine.run(input, out, cycles);
     end_of(cycles, machine.cycles(), stop)
+}
+
+// the end of a run that had so many cycles to make and stopped after so many were made
+fn end_of(cycles: u64, made: u64, stop: Stop) -> End
+    requires { made + 1 < 2 ^ 64 }
+    ensures { result ≡ end_of_run cycles made stop }
+{
+    match stop {
+        Stop::Halted => Ok(Finish::Done),
+        Stop::Budget => Err(Line::Budget(cycles, Counted::Cycles)),
+        Stop::ReadFault => Err(Line::ReadFault),
+        Stop::WriteFault => Err(Line::WriteFault),
+        Stop::Memory => Err(Line::NoMemory),
+        Stop::ArraysFull(count) => Err(Line::Limited(Limit::ArraysFull(count), made + 1)),
+        Stop::WordsFull(count) => Err(Line::Limited(Limit::WordsFull(count), made + 1)),
+        fault => Err(Line::Fault(fault, made + 1)),
+    }
 }

@@ -1,4 +1,9 @@
-/// How a command ended, by the number with which the program ends. See "Statuses" in docs/COMMANDS.md.
+//! How a command ended, as a number.
+
+ghost use Rattle.std.specs.Prelude.{◌≡◌};
+ghost use Rattle.codex_top.specs.Statuses.{number_of};
+
+/// How a command ended. See "Statuses" in docs/COMMANDS.md.
 #[derive(Clone, Copy, PartialEq, Eq, Debug, Drop)]
 pub enum Status {
     /// The command did its whole work.
@@ -13,7 +18,7 @@ pub enum Status {
     MachineFault,
     /// An Allocation or a Load would pass a limit.
     Limit,
-    /// As many cycles were made as were allowed, and the work isn't over.
+    /// As many cycles or events were made as were allowed, and the work isn't over.
     Budget,
     /// A file or the input couldn't be read.
     ReadFault,
@@ -21,4 +26,13 @@ pub enum Status {
     WriteFault,
     /// There was no memory.
     Memory,
+}
+
+impl Status {
+    /// The number with which the program ends, from 0 to 9. Takes no memory. See "Statuses" in docs/COMMANDS.md.
+    pub fn number(self) -> u8
+        ensures { result ≡ number_of self }
+    {
+        self as u8
+    }
 }

@@ -2,17 +2,22 @@
 
 ghost use Rattle.std.specs.Prelude.{◌≡◌, map, string_bytes};
 ghost use Rattle.umix_base.specs.Causes.{KeepsTelling};
-ghost use Rattle.codex_top.specs.Outside.{shelved, streams, IsShelfCounted, AreCounted};
+ghost use Rattle.codex_top.specs.Outside.{outside, told, IsCounted};
 ghost use Rattle.codex_top.specs.Words.{IsAllowed};
 ghost use Rattle.codex_top.specs.Jobs.{work_of};
 ghost use Rattle.codex_top.specs.Endings.{IsTold};
 ghost use Rattle.codex_top.specs.Commands.{Does, Ends, JobEnds};
 
 use crate::Status;
+use crate::asm::asm;
+use crate::check::check;
+use crate::compile::compile;
+use crate::dis::dis;
 use crate::end::End;
+use crate::eval::eval;
 use crate::line::Line;
 use crate::run::run;
-use crate::text::{assemble_file, list_file};
+use crate::trace::trace;
 use crate::words::{Job, job_of};
 use std::alloc::Global;
 use umix_base::{Shelf, Sink, Source};
@@ -29,18 +34,11 @@ pub fn codex<F: Shelf, I: Source, O: Sink, E: Sink>(
     out: &mut O,
     err: &mut E,
 ) -> Status
-    ensures does { Does (map string_bytes words.now.items)
-        (shelved (F.files shelf.old) (F.read_faults shelf.old) (F.write_faults shelf.old))
-        (shelved (F.files shelf.new) (F.read_faults shelf.new) (F.write_faults shelf.new))
-        (streams (I.rest input.old) (I.faults input.old) (O.written out.old) (O.faults out.old))
-        (streams (I.rest input.new) (I.faults input.new) (O.written out.new) (O.faults out.new))
-        (E.written err.old) (E.written err.new) (E.faults err.old) (E.faults err.new) result }
-    ensures shelf { IsShelfCounted
-        (shelved (F.files shelf.old) (F.read_faults shelf.old) (F.write_faults shelf.old))
-        (shelved (F.files shelf.new) (F.read_faults shelf.new) (F.write_faults shelf.new)) }
-    ensures streams { AreCounted
-        (streams (I.rest input.old) (I.faults input.old) (O.written out.old) (O.faults out.old))
-        (streams (I.rest input.new) (I.faults input.new) (O.written out.new) (O.faults out.new)) }
+    ensures does { let seen = outside F.Shelf I.Source O.Sink in
+        Does (map string_bytes words.now.items) (seen shelf.old input.old out.old)
+        (seen shelf.new input.new out.new) (told E.Sink err.old) (told E.Sink err.new) result }
+    ensures counted { let seen = outside F.Shelf I.Source O.Sink in
+        IsCounted (seen shelf.old input.old out.old) (seen shelf.new input.new out.new) }
 {
     let end = end_of_words(alloc, words, shelf, input, out);
     tell(end, err)
@@ -54,21 +52,15 @@ fn end_of_words<F: Shelf, I: Source, O: Sink>(
     input: &mut I,
     out: &mut O,
 ) -> End
-    ensures ends { Ends (map string_bytes words.now.items)
-        (shelved (F.files shelf.old) (F.read_faults shelf.old) (F.write_faults shelf.old))
-        (shelved (F.files shelf.new) (F.read_faults shelf.new) (F.write_faults shelf.new))
-        (streams (I.rest input.old) (I.faults input.old) (O.written out.old) (O.faults out.old))
-        (streams (I.rest input.new) (I.faults input.new) (O.written out.new) (O.faults out.new)) result }
-    ensures shelf { IsShelfCounted
-        (shelved (F.files shelf.old) (F.read_faults shelf.old) (F.write_faults shelf.old))
-        (shelved (F.files shelf.new) (F.read_faults shelf.new) (F.write_faults shelf.new)) }
-    ensures streams { AreCounted
-        (streams (I.rest input.old) (I.faults input.old) (O.written out.old) (O.faults out.old))
-        (streams (I.rest input.new) (I.faults input.new) (O.written out.new) (O.faults out.new)) }
+    ensures ends { let seen = outside F.Shelf I.Source O.Sink in
+        Ends (map string_bytes words.now.items)
+        (seen shelf.old input.old out.old) (seen shelf.new input.new out.new) result }
+    ensures counted { let seen = outside F.Shelf I.Source O.Sink in
+        IsCounted (seen shelf.old input.old out.old) (seen shelf.new input.new out.new) }
 {
-    match job_of(words) {
+    match job_of(alloc, words)? {
         Some(job) => work(alloc, job, shelf, input, out),
-        None => End::Stopped(Line::Usage),
+        None => Err(Line::Usage),
     }
 }
 
@@ -81,32 +73,38 @@ fn work<F: Shelf, I: Source, O: Sink>(
     out: &mut O,
 ) -> End
     requires { IsAllowed (work_of job) }
-    ensures ends { JobEnds (work_of job.entry)
-        (shelved (F.files shelf.old) (F.read_faults shelf.old) (F.write_faults shelf.old))
-        (shelved (F.files shelf.new) (F.read_faults shelf.new) (F.write_faults shelf.new))
-        (streams (I.rest input.old) (I.faults input.old) (O.written out.old) (O.faults out.old))
-        (streams (I.rest input.new) (I.faults input.new) (O.written out.new) (O.faults out.new)) result }
-    ensures shelf { IsShelfCounted
-        (shelved (F.files shelf.old) (F.read_faults shelf.old) (F.write_faults shelf.old))
-        (shelved (F.files shelf.new) (F.read_faults shelf.new) (F.write_faults shelf.new)) }
-    ensures streams { AreCounted
-        (streams (I.rest input.old) (I.faults input.old) (O.written out.old) (O.faults out.old))
-        (streams (I.rest input.new) (I.faults input.new) (O.written out.new) (O.faults out.new)) }
+    ensures ends { let seen = outside F.Shelf I.Source O.Sink in
+        JobEnds (work_of job.entry)
+        (seen shelf.old input.old out.old) (seen shelf.new input.new out.new) result }
+    ensures counted { let seen = outside F.Shelf I.Source O.Sink in
+        IsCounted (seen shelf.old input.old out.old) (seen shelf.new input.new out.new) }
 {
     match job {
+        Job::Check { file } => check(alloc, file, shelf, out),
+        Job::Eval {
+            file,
+            picks,
+            events,
+        } => eval(alloc, file, &picks, events, shelf, out),
+        Job::Trace {
+            file,
+            picks,
+            events,
+        } => trace(alloc, file, &picks, events, shelf, out),
+        Job::Compile { file, out } => compile(alloc, file, out, shelf),
         Job::Run { file, cycles } => run(alloc, file, cycles, shelf, input, out),
-        Job::Assemble { file, out } => assemble_file(alloc, file, out, shelf),
-        Job::List { file } => list_file(alloc, file, shelf, out),
+        Job::Asm { file, out } => asm(alloc, file, out, shelf),
+        Job::Dis { file } => dis(alloc, file, shelf, out),
     }
 }
 
 // writes the line of the end, and gives the status
 fn tell<E: Sink>(end: End, err: &mut E) -> Status
-    ensures { IsTold (E.written err.old) (E.written err.new) (E.faults err.old) (E.faults err.new) end result }
+    ensures { IsTold (told E.Sink err.old) (told E.Sink err.new) end result }
 {
     match end {
-        End::Done => Status::Done,
-        End::Stopped(line) => match line.put(err) {
+        Ok(finish) => finish.status(),
+        Err(line) => match line.put(err) {
             Ok(()) => line.status(),
             Err(_) => Status::WriteFault,
         },

@@ -1,14 +1,17 @@
 //! Worked rows of the commands, over an outside in memory.
 
+mod grids;
+mod limits;
+
 use crate::{Status, codex};
 use std::alloc::Global;
 use std::process::Abort;
 use std::test::Fail;
-use um_word::bytes_of;
+use um_word::{ScrollFault, bytes_of};
 use umix_base::{MemShelf, MemSink, MemSource, ShelfFail};
 
-/// One row: the words, the bytes of the file `f`, the input, the number of the call that fails, if one
-/// does, and what is expected.
+/// One row: the words, the bytes of the file `f`, the input, the call that fails, if one does, and what is
+/// expected.
 #[derive(Drop)]
 struct Row<'a> {
     words: &'a [&'a str],
@@ -22,49 +25,93 @@ struct Row<'a> {
     written: Option<&'a [u8]>,
 }
 
-/// Whose first call fails.
+/// The call that fails, by its number from 0.
 #[derive(Clone, Copy, PartialEq, Eq, Drop)]
 enum Fails {
     None,
-    Shelf,
-    Input,
-    Out,
-    Err,
+    /// A call of the shelf, which keeps so many bytes of what was to be written.
+    Shelf(u64, Option<usize>),
+    Input(u64),
+    Out(u64),
+    Err(u64),
 }
 
-fn first_call(alloc: Global, fails: bool) -> Result<Vec<u64>, Fail> {
-    if fails {
-        return Ok(vec![in alloc; 0u64]?);
+impl Fails {
+    fn of_shelf(self, alloc: Global) -> Result<Vec<ShelfFail>, Fail> {
+        let mut fails = Vec::new(alloc);
+        if let Fails::Shelf(call, kept) = self {
+            fails.push(ShelfFail { call, kept })?;
+        }
+        Ok(fails)
     }
-    Ok(Vec::new(alloc))
+
+    fn of_input(self, alloc: Global) -> Result<Vec<u64>, Fail> {
+        let mut fails = Vec::new(alloc);
+        if let Fails::Input(call) = self {
+            fails.push(call)?;
+        }
+        Ok(fails)
+    }
+
+    fn of_out(self, alloc: Global) -> Result<Vec<u64>, Fail> {
+        let mut fails = Vec::new(alloc);
+        if let Fails::Out(call) = self {
+            fails.push(call)?;
+        }
+        Ok(fails)
+    }
+
+    fn of_err(self, alloc: Global) -> Result<Vec<u64>, Fail> {
+        let mut fails = Vec::new(alloc);
+        if let Fails::Err(call) = self {
+            fails.push(call)?;
+        }
+        Ok(fails)
+    }
+}
+
+fn words_of_row(alloc: Global, list: &[&str]) -> Result<Vec<String>, Fail> {
+    let mut words = Vec::new(alloc);
+    for word in list {
+        words.push(String::from_str(alloc, word)?)?;
+    }
+    Ok(words)
 }
 
 fn check<R: Abort + AllocGlobal>(rt: &R, row: &Row<'_>) -> Result<(), Fail> {
     let alloc = rt.alloc();
-    let mut words = Vec::new(alloc);
-    for word in row.words {
-        words.push(String::from_str(alloc, word)?)?;
-    }
-    let mut shelf_fails = Vec::new(alloc);
-    if row.fails == Fails::Shelf {
-        shelf_fails.push(ShelfFail {
-            call: 0,
-            kept: None,
-        })?;
-    }
-    let mut shelf = MemShelf::new(alloc, shelf_fails);
+    let words = words_of_row(alloc, row.words)?;
+    let mut shelf = MemShelf::new(alloc, row.fails.of_shelf(alloc)?);
     shelf.place("f", row.file.to_vec(alloc)?)?;
-    let mut input = MemSource::new(
-        row.input.to_vec(alloc)?,
-        first_call(alloc, row.fails == Fails::Input)?,
-    );
-    let mut out = MemSink::new(alloc, 1000, first_call(alloc, row.fails == Fails::Out)?)?;
-    let mut err = MemSink::new(alloc, 1000, first_call(alloc, row.fails == Fails::Err)?)?;
+    let mut input = MemSource::new(row.input.to_vec(alloc)?, row.fails.of_input(alloc)?);
+    let mut out = MemSink::new(alloc, 1000, row.fails.of_out(alloc)?)?;
+    let mut err = MemSink::new(alloc, 1000, row.fails.of_err(alloc)?)?;
     let status = codex(alloc, &words, &mut shelf, &mut input, &mut out, &mut err);
     assert_eq!(rt; status, row.status);
     assert_eq!(rt; out.bytes(), row.out);
     assert_eq!(rt; err.bytes(), row.err.as_bytes());
     assert_eq!(rt; shelf.file("o"), row.written);
+    Ok(())
+}
+
+// does what the words ask for over a shelf that stays
+fn command<R: Abort + AllocGlobal>(
+    rt: &R,
+    shelf: &mut MemShelf,
+    words: &[&str],
+    out: &str,
+    err: &str,
+    status: Status,
+) -> Result<(), Fail> {
+    let alloc = rt.alloc();
+    let words = words_of_row(alloc, words)?;
+    let mut input = MemSource::new(Vec::new(alloc), Vec::new(alloc));
+    let mut written = MemSink::new(alloc, 1000, Vec::new(alloc))?;
+    let mut line = MemSink::new(alloc, 1000, Vec::new(alloc))?;
+    let ended = codex(alloc, &words, shelf, &mut input, &mut written, &mut line);
+    assert_eq!(rt; line.bytes(), err.as_bytes());
+    assert_eq!(rt; written.bytes(), out.as_bytes());
+    assert_eq!(rt; ended, status);
     Ok(())
 }
 
@@ -280,12 +327,30 @@ fn failing<'a>(
 fn failures_outside(rt: HostRuntime) -> Result<(), Fail> {
     let input = &[0xb0, 0, 0, 0, 0x70, 0, 0, 0];
     let rows = [
-        failing(Fails::Shelf, HELLO, b"", "read fault\n", Status::ReadFault),
-        failing(Fails::Input, input, b"", "read fault\n", Status::ReadFault),
+        failing(
+            Fails::Shelf(0, None),
+            HELLO,
+            b"",
+            "read fault\n",
+            Status::ReadFault,
+        ),
+        failing(
+            Fails::Input(0),
+            input,
+            b"",
+            "read fault\n",
+            Status::ReadFault,
+        ),
         failing(Fails::None, input, b"", "", Status::Done),
-        failing(Fails::Out, HELLO, b"", "write fault\n", Status::WriteFault),
-        failing(Fails::Err, &[0x50, 0, 0, 0], b"", "", Status::WriteFault),
-        failing(Fails::Err, HELLO, b"A", "", Status::Done),
+        failing(
+            Fails::Out(0),
+            HELLO,
+            b"",
+            "write fault\n",
+            Status::WriteFault,
+        ),
+        failing(Fails::Err(0), &[0x50, 0, 0, 0], b"", "", Status::WriteFault),
+        failing(Fails::Err(0), HELLO, b"A", "", Status::Done),
     ];
     for row in &rows {
         check(&rt, row)?;
@@ -354,6 +419,38 @@ fn texts(rt: HostRuntime) -> Result<(), Fail> {
     ];
     for row in &rows {
         check(&rt, row)?;
+    }
+    Ok(())
+}
+
+// commands whose output or file can't be written
+#[test]
+fn failed_writes(rt: HostRuntime) -> Result<(), Fail> {
+    let mut row = text(
+        "set r0, 65\nout r0\nhalt\n",
+        None,
+        "write fault\n",
+        Status::WriteFault,
+    );
+    row.fails = Fails::Shelf(1, None);
+    check(&rt, &row)?;
+    row.fails = Fails::Shelf(1, Some(5));
+    row.written = Some(&HELLO[..5]);
+    check(&rt, &row)?;
+    let mut row = words(&["dis", "f"], b"", "write fault\n", Status::WriteFault);
+    row.fails = Fails::Out(0);
+    check(&rt, &row)
+}
+
+#[test]
+fn messages_of_scroll_faults(rt: HostRuntime) -> Result<(), Fail> {
+    let faults = [
+        (ScrollFault::TooLong(67_108_865), "TooLong"),
+        (ScrollFault::Ragged(5), "Ragged"),
+        (ScrollFault::Memory, "Memory"),
+    ];
+    for (fault, message) in &faults {
+        assert_eq!(rt; format!(in rt.alloc(); "{fault}")?.as_str(), *message);
     }
     Ok(())
 }

@@ -1,0 +1,24 @@
+use Rattle.std.specs.Prelude.{Err, Ok}
+use Rattle.std.proofs.lemmas.Result.{err_from_is_err_and}
+use Rattle.codex_top.specs.CompileCommand.{unread, no_memory, compiled}
+use Rattle.codex_top.proofs.FileLemmas.{scroll_after}
+use Rattle.codex_top.proofs.ProgramLemmas.{program_stays}
+use Rattle.codex_top.proofs.compile.compile.Goals as goal
+
+pub returns-in_err-program-clause-ends : goal.returns-in_err-program-clause-ends
+returns-in_err-program-clause-ends g c =
+    let p = err_from_is_err_and c.from_residual.result c.from_residual.ensures.1 in
+    rw (p.1, p.2) (unread c.in_err-program.field-0.0 c.in_err-program.ensures.read (c.in_err-program.ensures.files, c.in_err-program.ensures.writes))
+
+pub returns-in_err-linked-clause-ends : goal.returns-in_err-linked-clause-ends
+returns-in_err-linked-clause-ends g c =
+    let p = err_from_is_err_and c.from_residual-in_err-linked.result c.from_residual-in_err-linked.ensures.1 in
+    rw (p.1, p.2) (no_memory (c.in_ok-program.ensures.files, c.in_ok-program.ensures.writes))
+
+pub returns-clause-ends : goal.returns-clause-ends
+returns-clause-ends g c =
+    compiled c.in_ok-program.program c.in_ok-linked.linked.words.items c.in_ok-linked.linked.blocks.items c.write_scroll.result
+    (program_stays c.args.file.now _ _ _ c.in_ok-program.program c.in_ok-program.ensures.read)
+    (rw c.deref.ensures.value at c.words_fit.ensures) c.in_ok-linked.ensures.realises c.in_ok-linked.ensures.follows
+    (scroll_after c.args.out.now c.in_ok-linked.linked.words.items _ _ _ c.write_scroll.result c.in_ok-program.ensures.files c.in_ok-program.ensures.writes
+    (rw c.deref-2.ensures.value at c.write_scroll.ensures.ends))

@@ -1,0 +1,20 @@
+-- The limits of the program.
+use Rattle.std.specs.Prelude.{ℕ, ◌^◌}
+use Rattle.umix_base.specs.declared.limits.Limits.{Limits}
+use Rattle.array_store.specs.StoreView.{most_live_arrays, most_live_words}
+
+-- the most arrays and words of a machine, of every run
+abbrev pub limits : Limits
+limits = record { arrays = most_live_arrays; words = most_live_words }
+
+-- the most cycles or events of one command, and their number where none is given
+abbrev pub most_made : ℕ
+most_made = 2 ^ 62
+
+-- the most bytes of an assembly text, enough for every listing
+abbrev pub most_text_bytes : ℕ
+most_text_bytes = 300_000_000
+
+-- the most bytes of a grid
+abbrev pub most_grid_bytes : ℕ
+most_grid_bytes = 262_144

@@ -1,0 +1,17 @@
+//! Laws of the commands' definitions.
+
+ghost use Rattle.codex_top.specs.Completeness.{CompiledRuns, Completeness};
+ghost use Rattle.codex_top.specs.Headline.{Headline};
+
+/// After `compile` of a grid is done, one meaning ties what `eval` tells of the grid, whatever the picks, and
+/// what `run` does with the scroll that was written.
+pub fn headline()
+    ensures { Headline }
+{}
+
+/// Where nothing outside fails, an accepted grid is checked and compiled and its outcome is told, or there is
+/// no memory; and `run` of what was compiled writes the whole text, for cycles enough and within the limits.
+pub fn completeness()
+    ensures grids { Completeness }
+    ensures scrolls { CompiledRuns }
+{}
