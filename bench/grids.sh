@@ -96,7 +96,7 @@ crossings() {
 
 # The processor seconds that ./codex takes for the words.
 seconds() {
-    { time -p "$codex" "$@" >/dev/null 2>&1; } 2>"$work/time" || true
+    { time -p sh -c '"$@" >/dev/null 2>&1' sh "$codex" "$@"; } 2>"$work/time" || true
     awk '$1 == "user" || $1 == "sys" { sum += $2 } END { printf "%.2f", sum }' "$work/time"
 }
 
