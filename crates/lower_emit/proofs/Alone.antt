@@ -21,7 +21,7 @@ use Rattle.lower_emit.specs.Layouts.{Layout, temporary, input_slot}
 use Rattle.lower_emit.specs.inner.Frames.{AtPlace, IsWireSlot}
 use Rattle.lower_emit.specs.inner.Ends.{exit_value, Ended}
 use Rattle.lower_emit.specs.Entered.{HasBlocks, IsApart, Return}
-use Rattle.lower_emit.specs.BlocksAlone.{Surroundings, Stay, IsAnswered, IsOwnMoment, back_to, ReturnsNow}
+use Rattle.lower_emit.specs.Surroundings.{Surroundings, Stay, IsAnswered, IsOwnMoment, back_to, ReturnsNow}
 use Rattle.lower_emit.proofs.Boxes.{carries_grow, marked_grow}
 use Rattle.lower_emit.proofs.Stretching.{comes}
 use Rattle.lower_emit.proofs.Using.{keeps_all, blocks_stay, Called, call_law}
@@ -56,7 +56,7 @@ module _ (w : Surroundings) (frames : List ℕ) (m width : ℕ) (y : Layout) (ro
     pub out_is : u.out ≡ s.out
 
   abbrev Moment : State → State → Loads → Type 0
-  Moment s t k = IsOwnMoment w m s t
+  Moment s t k = IsOwnMoment w frames m s t
 
   alone_frames : Contains frames frame → ⊥
   alone_frames c = alone (suc c.0, omega (arith, c.1), c.2)

@@ -32,15 +32,15 @@ use Rattle.lower_emit.specs.inner.Plans.{by_texts}
 use Rattle.lower_emit.specs.Plans.{step_box, box_in, box_if, block_of}
 use Rattle.lower_emit.proofs.Turns.{carrying_here, carrying_past, Shows, HasApart, call_in, turn_law, turn_calls}
 
-abbrev boxes_in : List PlanStep → List ℕ
+abbrev pub boxes_in : List PlanStep → List ℕ
 boxes_in steps = map (λ (step : PlanStep). step.bx) steps
 
 -- each step is that of its box
-abbrev AreSteps : ModuleForm → List PlanStep → Type 0
+abbrev pub AreSteps : ModuleForm → List PlanStep → Type 0
 AreSteps M [] = Unit {0}
 AreSteps M (step ∷ steps) = IsStep M step step.bx × AreSteps M steps
 
-are_steps : (M : ModuleForm) (steps : List PlanStep) → ((j : ℕ) (step : PlanStep) → slice_get steps j ≡ Some step → IsStep M step step.bx) → AreSteps M steps
+pub are_steps : (M : ModuleForm) (steps : List PlanStep) → ((j : ℕ) (step : PlanStep) → slice_get steps j ≡ Some step → IsStep M step step.bx) → AreSteps M steps
 are_steps M [] h = tt
 are_steps M (step ∷ steps) h = (h 0 step refl, are_steps M steps (λ j s e. h (suc j) s e))
 
@@ -75,11 +75,11 @@ module _ (P : Program) (answer : Answers) (m : ℕ) (a : Inputs) (sound : IsSoun
   known = known_of (texts_of P) answer
 
   -- one box, behind its sources
-  record Turned (step : PlanStep) (wires : ℕ → Option Value) (marks : ℕ → Option TextTrail) (cells : Cells) (box : Box) : Type 0 where
-    shows : Shows P m a (fired_wires known box wires) (fired_marks known box wires marks) (turned P answer m a cells step.bx)
-    calls : call_of box wires ≡ call_in (act P m (look_of P answer m a) step.bx)
+  pub record Turned (step : PlanStep) (wires : ℕ → Option Value) (marks : ℕ → Option TextTrail) (cells : Cells) (box : Box) : Type 0 where
+    pub shows : Shows P m a (fired_wires known box wires) (fired_marks known box wires marks) (turned P answer m a cells step.bx)
+    pub calls : call_of box wires ≡ call_in (act P m (look_of P answer m a) step.bx)
 
-  one_turn : (step : PlanStep) (before : List ℕ) (wires : ℕ → Option Value) (marks : ℕ → Option TextTrail) (cells : Cells) → IsStep (module_at P m) step step.bx →
+  pub one_turn : (step : PlanStep) (before : List ℕ) (wires : ℕ → Option Value) (marks : ℕ → Option TextTrail) (cells : Cells) → IsStep (module_at P m) step step.bx →
       SourcesAmong before (box_at P m step.bx) → IsPushed P answer m a before cells → Shows P m a wires marks cells → Turned step wires marks cells (box_in P m step)
   one_turn step before wires marks cells one sources is shows =
       let same = act_pushed P answer m a whole before cells step.bx is sources in
@@ -239,13 +239,13 @@ module _ (P : Program) (answer : Answers) (a : Inputs) (p : Plan) (plan : IsPlan
   abbrev pub boxes : List Box
   boxes = map (box_in P m) p.steps.items
 
-  whole : look_of P answer m a ≡ look_in a (cells_from P answer m (look_of P answer m a))
+  pub whole : look_of P answer m a ≡ look_in a (cells_from P answer m (look_of P answer m a))
   whole = pulled-whole P answer m a order plan.order.valid
 
   abbrev pub first_wires : ℕ → Option Value
   first_wires = entry_wires (block_of P p) a.north a.west
 
-  first_shows : Shows P m a first_wires (λ b. None) none_fired
+  pub first_shows : Shows P m a first_wires (λ b. None) none_fired
   first_shows = rw (plan.north, plan.west) (entry_shows P m a)
 
   -- After all turns each wire carries what is pulled and each box has its stuck mark.

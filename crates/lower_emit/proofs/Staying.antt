@@ -9,7 +9,7 @@ use Rattle.codex_values.specs.Value as value
 use Rattle.lower_emit.specs.Stands.{Stands, TextTrail, At, Via, Trails, Carries, Marked}
 use Rattle.lower_emit.specs.inner.Stretches.{KeepsArrays}
 use Rattle.lower_emit.specs.Entered.{HasBlocks, IsApart}
-use Rattle.lower_emit.specs.BlocksAlone.{Surroundings, StandsThere, Stay}
+use Rattle.lower_emit.specs.Surroundings.{Surroundings, StandsThere, Stay}
 
 -- an element does not depend on what stands for one that isn't there
 same_or : (xs : List ℕ) (i d e : ℕ) → i < length xs → slice_index_or xs i d ≡ slice_index_or xs i e

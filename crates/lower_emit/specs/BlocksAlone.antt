@@ -1,111 +1,77 @@
 -- What a block does for one instance by itself, whoever answers its uses.
-use Rattle.std.specs.Prelude.{ℕ, zero, suc, ◌+◌, ◌*◌, ◌<◌, ◌≤◌, ◌≡◌, ◌≢◌, ◌⊎◌, false, List, [], ◌∷◌}
-use Rattle.std.specs.Prelude.{◌++◌, length, slice_index, Option, Some, None}
+use Rattle.std.specs.Prelude.{ℕ, zero, suc, ◌+◌, ◌*◌, ◌<◌, ◌≤◌, ◌≡◌, ◌==◌, false, List, [], ◌∷◌}
+use Rattle.std.specs.Prelude.{length, slice_index, if◌then◌else◌, Option, Some, None}
+use Rattle.std.specs.Option.{option_map}
 use Rattle.std.specs.FinMap as fin
 use Rattle.std.specs.List.{Contains}
 use Rattle.umix_base.specs.declared.limits.Limits.{Limits}
-use Rattle.um_word.specs.State.{Arrays, State, reg}
-use Rattle.um_word.specs.Table.{op_under}
+use Rattle.um_word.specs.State.{State}
 use Rattle.um_word.specs.Run.{run, AreLegal}
 use Rattle.um_word.specs.Loads.{IsLimit}
 use Rattle.um_word.specs.Leads.{OnStanding}
-use Rattle.codex_values.specs.Value.{Value}
-use Rattle.two_d.specs.declared.module.Origin.TheVariants.{North, West}
-use Rattle.two_d.specs.Programs.{Program, module_at}
+use Rattle.two_d.specs.declared.module.Origin.{Origin}
+use Rattle.two_d.specs.Programs.{ModuleForm, Program, module_at, box_count}
 use Rattle.two_d.specs.Sound.{IsKeptOrder}
-use Rattle.two_d.specs.Meaning.{Inputs, Effect, Done, Starts, Answers, act, look_of, meaning_of}
+use Rattle.two_d.specs.Meaning.{Inputs, Effect, Done, Starts, Answers, Cell, Cells, none_fired}
+use Rattle.two_d.specs.Meaning.{act, cell_of, look_in, look_of, meaning_of, stuck_of}
 use Rattle.two_d.specs.Weights.{part}
-use Rattle.code_templates.specs.Lines.{IsOwnAt}
-use Rattle.lower_plan.specs.Plans.{slot_of}
-use Rattle.lower_emit.specs.Stands.{Ending, Stands, TextTrail, Trails, Carries, Marked}
-use Rattle.lower_emit.specs.Entered.{Return, Entered}
-use Rattle.lower_emit.specs.KnownOutcomes.{Call, Known, known_of, texts_of}
-use Rattle.lower_emit.specs.Layouts.{value_out, stuck_out}
+use Rattle.lower_plan.specs.Plans.{slot_of, wire_starts}
+use Rattle.lower_emit.specs.Stands.{Ending, Carries, Marked}
+use Rattle.lower_emit.specs.Entered.{Return}
+use Rattle.lower_emit.specs.KnownOutcomes.{Call, Known, known_of, by_numbers, texts_of}
+use Rattle.lower_emit.specs.Layouts.{Layout, wire_slot, stuck_slot}
+use Rattle.lower_emit.specs.Surroundings.{Surroundings, AreSurroundings, IsCalled, IsAnswered}
+use Rattle.lower_emit.specs.Surroundings.{IsOwnMoment, back_to, CallsNow, ReturnsNow}
 
--- The blocks that a block meets: their words, the sizes of their frames and the wires of their
--- entries, by their numbers; and the table, with the arrays of the blocks.
-pub record Surroundings : Type 0 where
-  pub codes : ℕ → List ℕ
-  pub size : ℕ → ℕ
-  pub north : ℕ → Option ℕ
-  pub west : ℕ → Option ℕ
-  pub table : ℕ
-  pub ids : List ℕ
+-- One instance: the program, the number of its module, its inputs, what is known of the modules that
+-- it uses, the blocks around it, its frame, those of its caller and of others, and where it returns.
+pub record Instance : Type 0 where
+  pub program : Program
+  pub number : ℕ
+  pub inputs : Inputs
+  pub answer : Answers
+  pub around : Surroundings
+  pub frame : ℕ
+  pub others : List ℕ
+  pub back : Return
 
--- They are those of the program: a block for each module and one more, with the frames and entries
--- of the modules.
-pub record AreSurroundings (P : Program) (w : Surroundings) : Type 0 where
-  pub many : length P < length w.ids
-  pub sizes : (m : ℕ) → m < length P → w.size m ≡ 12 + part (module_at P m)
-  pub norths : (m : ℕ) → m < length P → w.north m ≡ slot_of (module_at P m) North
-  pub wests : (m : ℕ) → m < length P → w.west m ≡ slot_of (module_at P m) West
+-- what is known of the modules that it uses, and of itself, by the texts of the program
+abbrev pub known_to : Instance → Known
+known_to one = known_of (texts_of one.program) one.answer
 
--- the block of this number was just called with these inputs, in this new frame
-abbrev pub IsCalled : Surroundings → (number : ℕ) → Return → Inputs → (frame : ℕ) → State → Type 0
-IsCalled w number back a frame s =
-    Entered w.codes w.table w.ids number (w.size number) (w.north number)
-    (w.west number) back a frame s
+abbrev pub known_about : Instance → Option Ending
+known_about one =
+    known_of (texts_of one.program) (meaning_of one.program one.answer) one.number one.inputs
 
--- the array is the table, a block or one of these frames, or it stands for a value or a trail
-abbrev pub StandsThere : Surroundings → (frames : List ℕ) → Arrays → ℕ → Type 0
-StandsThere w frames m k =
-    (k ≡ w.table) ⊎ Contains w.ids k ⊎ Contains frames k
-    ⊎ ((v : Value) × Stands m k v) ⊎ ((trail : TextTrail) × Trails m k trail)
+-- what a box of the instance does, if it is enabled
+abbrev pub effect_at : Instance → ℕ → Option Effect
+effect_at one b =
+    act one.program one.number (look_of one.program one.answer one.number one.inputs) b
 
--- all that stands in the first arrays is in the others as it was
-abbrev pub Stay : Surroundings → (frames : List ℕ) → Arrays → Arrays → Type 0
-Stay w frames m n =
-    (k : ℕ) (words : List ℕ) → k ≢ 0 → StandsThere w frames m k →
-    fin.get m k ≡ Some words → fin.get n k ≡ Some words
+-- what the boxes have come to once this one had its turn too
+abbrev pub turned_too : Instance → Cells → (b : ℕ) → Cells
+turned_too one cells b = λ d.
+    if d == b then option_map (cell_of one.number b one.answer) (effect_at one b) else cells d
 
--- A call is answered: t is right after it, and u where the caller goes on. All that stood stays,
--- the caller's frame too.
-pub record IsAnswered (w : Surroundings) (frames : List ℕ) (back : Return) (came : Ending)
-    (t u : State) : Type 0 where
-  pub running : u.halted ≡ false
-  pub finger : u.finger ≡ back.offset
-  pub eight : length u.registers ≡ 8
-  pub zero_is : reg u 0 ≡ 0
-  pub table_is : reg u 1 ≡ w.table
-  pub current_is : reg u 2 ≡ back.caller
-  pub code_is : fin.get u.arrays 0 ≡ Some (w.codes back.block)
-  pub value_is : Carries u.arrays (reg u 3) came.value
-  pub mark_is : Marked u.arrays (reg u 4) came.mark
-  pub stay : Stay w (back.caller ∷ frames) t.arrays u.arrays
+-- the layout of the frames of a module
+abbrev pub frame_layout : ModuleForm → Layout
+frame_layout m = record {
+  wires = length (wire_starts m);
+  boxes = length m.boxes;
+  size = 12 + part m;
+}
 
--- a moment of the block's own since state s: array 0 is the block, and stays it; nothing was
--- written; and neither an Input nor an Abandonment is next
-pub record IsOwnMoment (w : Surroundings) (number : ℕ) (s t : State) : Type 0 where
-  pub own : IsOwnAt t
-  pub code_is : fin.get t.arrays 0 ≡ Some (w.codes number)
-  pub out_is : t.out ≡ s.out
-
--- where a block goes on after a call: in its own frame, and not at its begin
-abbrev pub back_to : (number frame offset : ℕ) → Return
-back_to number frame offset = record { caller = frame; block = number; offset = offset }
-
--- The block has just made this call: the callee's block is entered with these inputs, in a new
--- frame.
-pub record CallsNow (w : Surroundings) (frames : List ℕ) (number frame : ℕ) (call : Call)
-    (s t : State) : Type 0 where
-  pub new : ℕ
-  pub offset : ℕ
-  pub not_zero : 1 ≤ offset
-  pub is_new : fin.get s.arrays new ≡ None
-  pub entered : IsCalled w call.callee (back_to number frame offset) call.inputs new t
-  pub out_is : t.out ≡ s.out
-  pub stay : Stay w frames s.arrays t.arrays
-
--- The block has just returned: its caller has its answer, and the outcome is in the frame too.
-pub record ReturnsNow (w : Surroundings) (frames : List ℕ) (frame : ℕ) (back : Return)
-    (came : Ending)
-    (s t : State) : Type 0 where
-  pub answered : IsAnswered w frames back came s t
+-- The frame shows what the boxes have come to: each wire has in its slot the value that it carries,
+-- or 0 for none; and each box has its mark where it is stuck, or 0.
+pub record Shows (one : Instance) (cells : Cells) (t : State) : Type 0 where
   pub slots : List ℕ
-  pub frame_is : fin.get t.arrays frame ≡ Some slots
-  pub value_is : Carries t.arrays (slice_index slots value_out) came.value
-  pub mark_is : Marked t.arrays (slice_index slots stuck_out) came.mark
-  pub out_is : t.out ≡ s.out
+  pub frame_is : fin.get t.arrays one.frame ≡ Some slots
+  pub wires_are : (o : Origin) (k : ℕ) → slot_of (module_at one.program one.number) o ≡ Some k →
+      Carries t.arrays (slice_index slots (wire_slot k)) (look_in one.inputs cells o)
+  pub marks_are : (b : ℕ) → b < box_count one.program one.number →
+      Marked t.arrays
+      (slice_index slots (stuck_slot (frame_layout (module_at one.program one.number)) b))
+      (option_map (by_numbers (texts_of one.program)) (stuck_of (cells b)))
 
 -- with so many cycles left of the way
 abbrev pub OnTheWay : (State → Type 0) → ℕ → (State → Type 0) → State → Type 0
@@ -119,42 +85,60 @@ ComesInRuns I n Q s =
     (L : Limits) (done left : ℕ) (ids : List ℕ) → done + left ≡ n → AreLegal L done ids s →
     OnStanding (run L done ids s) (λ t. OnTheWay I left Q t) (λ t fault. IsLimit fault × I t)
 
--- In n cycles of its own a block makes these calls, one after the other, and then returns with its
--- ending. Behind a call that isn't answered by what is known, nothing is said.
-unfoldable pub Plays : Surroundings → (frames : List ℕ) → (number frame : ℕ) → Return → Known →
-    Option Ending →
-    List Call → (n : ℕ) → State → Type 0
-Plays w frames number frame back known came [] n s =
-    ComesInRuns (λ t. IsOwnMoment w number s t) n
-    (λ t. (ending : Ending) × (came ≡ Some ending) × ReturnsNow w frames frame back ending s t) s
-Plays w frames number frame back known came (call ∷ calls) n s =
+-- In n cycles of its own the block comes from u to a state that has Q; s is where it was entered, or
+-- had its last answer.
+abbrev pub Comes : Instance → (n : ℕ) → (Q : State → Type 0) → (s u : State) → Type 0
+Comes one n Q s u =
+    ComesInRuns (λ t. IsOwnMoment one.around one.others one.number s t) n Q u
+
+-- what a block does from u on in n cycles of its own, since s
+abbrev pub Doing : Type 1
+Doing = (n : ℕ) → (s u : State) → Type 0
+
+-- it comes to a moment at which its frame shows these cells, and goes on from there
+abbrev pub ShowsThen : Instance → Cells → (rest : Doing) → Doing
+ShowsThen one cells rest n s u =
+    (i j : ℕ) × (i + j ≡ n) × Comes one i (λ t. Shows one cells t × rest j s t) s u
+
+-- It makes this call, and once that is answered by what is known, goes on. Behind a call that isn't
+-- answered so, nothing is said.
+abbrev pub Asks : Instance → Call → (rest : Doing) → Doing
+Asks one call rest n s u =
     (i j : ℕ) × (i + j ≡ n)
-    × ComesInRuns (λ t. IsOwnMoment w number s t) i
-    (λ t. (now : CallsNow w frames number frame call s t)
-    × ((ending : Ending) → known call.callee call.inputs ≡ Some ending →
-    (u : State) → IsAnswered w frames (back_to number frame now.offset) ending t u →
-    Plays w frames number frame back known came calls j u)) s
+    × Comes one i
+    (λ t. (now : CallsNow one.around one.others one.number one.frame call s t)
+    × ((ending : Ending) → known_to one call.callee call.inputs ≡ Some ending →
+    (v : State) →
+    IsAnswered one.around one.others (back_to one.number one.frame now.offset) ending t v →
+    rest j v v)) s u
 
--- the call that a box makes
-abbrev pub call_made : Option Effect → List Call
-call_made None = []
-call_made (Some (Done cell)) = []
-call_made (Some (Starts callee inputs)) = record { callee = callee; inputs = inputs } ∷ []
+-- a box that does this has its turn: a `use` makes its call first
+abbrev pub Turn : Instance → Option Effect → (rest : Doing) → Doing
+Turn one None rest = rest
+Turn one (Some (Done cell)) rest = rest
+Turn one (Some (Starts callee inputs)) rest =
+    Asks one (record { callee = callee; inputs = inputs }) rest
 
--- the calls of these boxes, in their order
-abbrev pub calls_made : (ℕ → Option Effect) → List ℕ → List Call
-calls_made acts [] = []
-calls_made acts (b ∷ boxes) = call_made (acts b) ++ calls_made acts boxes
+-- The block gives these boxes their turns, one after the other, and behind each its frame shows
+-- what the boxes so far have come to, and no more; then it returns with the instance's ending.
+unfoldable pub Plays : Instance → Cells → (boxes : List ℕ) → Doing
+Plays one cells [] n s u =
+    Comes one n (λ t. (ending : Ending) × (known_about one ≡ Some ending)
+    × ReturnsNow one.around one.others one.frame one.back ending s t) s u
+Plays one cells (b ∷ boxes) n s u =
+    Turn one (effect_at one b)
+    (ShowsThen one (turned_too one cells b) (Plays one (turned_too one cells b) boxes)) n s u
 
 -- a block has at most so many words, and makes at most so many cycles of its own, for each unit of
 -- its module's part
 abbrev pub most_a_unit : ℕ
 most_a_unit = 18
 
--- What these words do as the block of module m, for one instance, whatever answers its uses: they
--- make the calls of its enabled uses in the kept order, as long as these are answered, and return
--- with the outcome that the module means. They may be run with any table and in any new frame; the
--- frames of the caller and of other instances stay.
+-- What these words do as the block of module m, for one instance, whatever answers its uses: the
+-- inputs go to their wires; the boxes have their turns in the kept order, as long as the calls of
+-- the enabled uses are answered; and the block returns with the outcome that the module means. The
+-- words may be run with any table and in any new frame; the frames of the caller and of other
+-- instances stay.
 unfoldable pub BlockRuns : Program → (m : ℕ) → (words : List ℕ) → Type 0
 BlockRuns P m words =
     (order : List ℕ) → IsKeptOrder (module_at P m) order →
@@ -162,8 +146,15 @@ BlockRuns P m words =
     (s : State) →
     AreSurroundings P w → w.codes m ≡ words → back.block < length w.ids →
     Contains others back.caller → (Contains others frame → ⊥) → IsCalled w m back a frame s →
-    let known = known_of (texts_of P) answer in
-    let came = known_of (texts_of P) (meaning_of P answer) m a in
-    let acts = act P m (look_of P answer m a) in
+    let one : Instance = record {
+      program = P;
+      number = m;
+      inputs = a;
+      answer = answer;
+      around = w;
+      frame = frame;
+      others = others;
+      back = back;
+    } in
     (n : ℕ) × (n ≤ most_a_unit * part (module_at P m))
-    × Plays w others m frame back known came (calls_made acts order) n s
+    × ShowsThen one none_fired (Plays one none_fired order) n s s

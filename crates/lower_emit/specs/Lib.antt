@@ -1,6 +1,7 @@
 pub mod Stands
 pub mod Entered
 pub mod KnownOutcomes
+pub mod Surroundings
 pub mod BlocksAlone
 pub mod Tables
 pub mod Layouts

@@ -8,4 +8,3 @@ pub mod Firing
 pub mod Trips
 pub mod Codes
 pub mod Plans
-pub mod Making
