@@ -85,7 +85,7 @@ call_by : (n w callee size own back table caller : ℕ) (slots blocks block : Li
     ArrivesAt (call_block n w callee (suc (suc (suc (suc (suc size))))) own back) table caller s →
     map.get s.arrays caller ≡ Some slots → n < length slots → w < length slots →
     map.get s.arrays table ≡ Some blocks → callee < length blocks → HasWords s.arrays (slice_index blocks callee) block →
-    Freely 21 21 ((block, 0) ∷ []) (λ t. (new : ℕ) × IsNew s.arrays new ×
+    Freely 21 21 (record { words = block; offset = 0 } ∷ []) (λ t. (new : ℕ) × IsNew s.arrays new ×
     Leaves 0 table new
     (map.insert (map.insert s.arrays new (caller ∷ own ∷ back ∷ slice_index slots n ∷ slice_index slots w ∷ replicate size 0)) 0 block)
     s.out s t) s

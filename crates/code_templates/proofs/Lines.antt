@@ -28,7 +28,7 @@ pub data Exit : Type 0 where
   Halts : Exit
 
 abbrev pub exit_loads : Exit → Loads
-exit_loads (Enters words place) = (words, place) ∷ []
+exit_loads (Enters words place) = record { words = words; offset = place } ∷ []
 exit_loads _ = []
 
 -- the state with this finger and this number of cycles, running
@@ -278,13 +278,13 @@ module _ (place size : ℕ) (code : List ℕ) (came : State) (loads : Loads) (Q 
   load_leads : (n b c : ℕ) (s : State) (f cycles : ℕ) → Stood (Load b c ∷ []) s f → reg s b ≡ n → Enter Q s n (reg s c) → Comes (Load b c ∷ []) f cycles (at_place s f cycles) loads
   load_leads zero b c s f cycles h e q =
       last_leads (Load b c) s f cycles h tt (no_amend (Load b c) s refl) (Jumps (reg s c)) s (λ id. ap (λ n. loaded_row n (n == 0) s f cycles (reg s c)) e)
-      (ap (λ n. if n == 0 then [] else (array_at s.arrays n, reg s c) ∷ []) e) q
+      (ap (λ n. if n == 0 then [] else record { words = array_at s.arrays n; offset = reg s c } ∷ []) e) q
   load_leads (suc n) b c s f cycles h e q =
       last_leads (Load b c) s f cycles h tt (no_amend (Load b c) s refl) (Enters q.0 (reg s c)) s
       (λ id. ap (λ n. loaded_row n (n == 0) s f cycles (reg s c)) e ∙ ap (λ x. loaded_row (suc n) x s f cycles (reg s c)) (eqb-suc-zero n)
       ∙ ap (λ o. with_some o LoadInactive (λ words. Goes (record (with_array (moved (at_place s f cycles)) 0 words) { finger = reg s c }))) q.1)
-      (ap (λ n. if n == 0 then [] else (array_at s.arrays n, reg s c) ∷ []) e ∙ ap (λ x. if x then [] else (array_at s.arrays (suc n), reg s c) ∷ []) (eqb-suc-zero n)
-      ∙ ap (λ o. (unwrap_or o [], reg s c) ∷ []) q.1) q.2
+      (ap (λ n. if n == 0 then [] else record { words = array_at s.arrays n; offset = reg s c } ∷ []) e ∙ ap (λ x. if x then [] else record { words = array_at s.arrays (suc n); offset = reg s c } ∷ []) (eqb-suc-zero n)
+      ∙ ap (λ o. record { words = unwrap_or o []; offset = reg s c } ∷ []) q.1) q.2
 
   line_leads : (ops : List Op) (s : State) (f c : ℕ) → Stood ops s f → line ops Q s → Comes ops f c (at_place s f c) loads
   unfolding line

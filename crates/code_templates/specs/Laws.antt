@@ -177,7 +177,7 @@ CallBlockLaw way =
     let north = slice_index slots n in
     let west = slice_index slots w in
     let words = caller ∷ own ∷ back ∷ north ∷ west ∷ replicate (size - 5) 0 in
-    way.leads (record { size = 21; cycles = 21; loads = (block, 0) ∷ [] })
+    way.leads (record { size = 21; cycles = 21; loads = record { words = block; offset = 0 } ∷ [] })
     (λ t. (new : ℕ) × IsNew s.arrays new ×
     Leaves 0 table new (map.insert (map.insert s.arrays new words) 0 block) s.out s t) s
 
@@ -198,7 +198,7 @@ ReturnOutcomeLaw way = (table frame : ℕ) (slots blocks block : List ℕ) (s : 
     map.get s.arrays table ≡ Some blocks → slice_index slots 1 < length blocks →
     HasWords s.arrays (slice_index blocks (slice_index slots 1)) block →
     let back = slice_index slots 2 in
-    way.leads (record { size = 11; cycles = 11; loads = (block, back) ∷ [] }) (λ t.
+    way.leads (record { size = 11; cycles = 11; loads = record { words = block; offset = back } ∷ [] }) (λ t.
     Leaves back table (slice_index slots 0) (map.insert s.arrays 0 block) s.out s t
     × (reg t 3 ≡ slice_index slots 5) × (reg t 4 ≡ slice_index slots 6)) s
 

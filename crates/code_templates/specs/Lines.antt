@@ -28,7 +28,7 @@ pub record IsOwnAt (t : State) : Type 0 where
 -- what was loaded last into array 0, which held these words before the loads
 abbrev pub last_loaded : List ℕ → Loads → List ℕ
 last_loaded words [] = words
-last_loaded words (load ∷ loads) = last_loaded load.0 loads
+last_loaded words (load ∷ loads) = last_loaded load.words loads
 
 -- The machine stands within so many words from a place on, as it came there: array 0 is as it was,
 -- nothing was written or read, and the operator under the finger is the code's own.
