@@ -7,11 +7,12 @@ use Rattle.um_word.specs.State.{State, reg}
 use Rattle.um_word.proofs.Arrays.{get-insert_other}
 use Rattle.um_word.specs.Loads.{Loads}
 use Rattle.um_word.specs.Leads.{IsNew, Leads}
-use Rattle.code_templates.specs.Lines.{StandsAt}
+use Rattle.code_templates.specs.Lines.{StandsAt, StandStill}
 use Rattle.code_templates.specs.Templates.{copy_begin, copy_word, copy_end, copy_block}
 use Rattle.code_templates.specs.Laws.{Quietly, Leaves, HasWords, piece, CopyBlockLaw}
 use Rattle.code_templates.specs.inner.Freely.{freely, ArrivesAt}
 use Rattle.um_word.proofs.Leading.{weaken, weaken_along, join}
+use Rattle.code_templates.proofs.Still.{Covers, covers_same, covers_none, covers_new, still, still_allocated, named}
 use Rattle.code_templates.proofs.Lines.{end, set, index, amend, amend_last, add_to, nand, alloc, move, move_not, jump}
 use Rattle.code_templates.proofs.Straight.{within_wider, eight, straight, stands_front, stands_back, there, apart}
 
@@ -73,7 +74,7 @@ module _ (size i place table current : ℕ) (blocks code : List ℕ) (came : Sta
   done = came.finger + 12
 
   abbrev Along : State → Loads → Type 0
-  Along = Quietly came.finger 14 came l
+  Along = Quietly came.finger 14 (table ∷ []) came l
 
   -- the machine stands at a place of the template, with the first j words of the new array still 0
   record Copies (new finger j : ℕ) (t : State) : Type 0 where
@@ -87,13 +88,20 @@ module _ (size i place table current : ℕ) (blocks code : List ℕ) (came : Sta
     rest_is : t.rest ≡ came.rest
 
   -- what stands within a part of the template, stands within it
-  part : (from n : ℕ) (s : State) → came.finger ≤ from → from + n ≤ came.finger + 14 → map.get s.arrays 0 ≡ Some code → s.out ≡ came.out → s.rest ≡ came.rest →
-      (t : State) (k : Loads) → Quietly from n s l t k → Along t k
-  part from n s low high there_is out rest t k w = (within_wider from n came.finger 14 s came low high (there_is ∙ sym code_is) out rest t w.0, w.1)
+  part : (from n : ℕ) (but : List ℕ) (s : State) → came.finger ≤ from → from + n ≤ came.finger + 14 → map.get s.arrays 0 ≡ Some code →
+      Covers (table ∷ []) came.arrays but → StandStill (table ∷ []) came.arrays s.arrays → s.out ≡ came.out → s.rest ≡ came.rest →
+      (t : State) (k : Loads) → Quietly from n but s l t k → Along t k
+  part from n but s low high there_is covers stays out rest t k w =
+      (within_wider from n came.finger 14 (table ∷ []) but s came low high (there_is ∙ sym code_is) covers stays out rest t w.0, w.1)
 
   zero_there : (new finger j : ℕ) (t : State) → IsNew came.arrays new → Copies new finger j t → map.get t.arrays 0 ≡ Some code
   zero_there new finger j t is_new c =
       ap (λ m. map.get m 0) c.arrays_are ∙ get-insert_other came.arrays new (blank j words) 0 (apart came.arrays new 0 code is_new code_is) ∙ code_is
+
+  stays : (new finger j : ℕ) (t : State) → IsNew came.arrays new → Copies new finger j t → StandStill (table ∷ []) came.arrays t.arrays
+  stays new finger j t is_new c =
+      subst (λ m. StandStill (table ∷ []) came.arrays m) (sym c.arrays_are)
+      (still_allocated (table ∷ []) came.arrays came.arrays new (blank j words) is_new (still (table ∷ []) came.arrays))
 
   same_code : comes.code ≡ code
   same_code = ap (λ o. unwrap_or o []) (sym comes.code_is ∙ code_is)
@@ -113,8 +121,8 @@ module _ (size i place table current : ℕ) (blocks code : List ℕ) (came : Sta
       let e = eight came.registers 0 table current comes.eight comes.zero_is comes.table_is comes.current_is in
       let all = blank-all words ∙ ap (λ n. replicate n 0) long in
       let full : blank size words ≡ replicate size 0 = subst (λ n. blank n words ≡ replicate size 0) long all in
-      weaken_along (Quietly came.finger 3 came l) Along 3 _ (part came.finger 3 came (omega arith) (omega arith) code_is refl refl) came l
-      (straight (copy_begin size) (λ t k. ((new : ℕ) × IsNew came.arrays new × Copies new loop size t) × (k ≡ l)) _ code came l comes.running code_is
+      weaken_along (Quietly came.finger 3 [] came l) Along 3 _ (part came.finger 3 [] came (omega arith) (omega arith) code_is (covers_none (table ∷ []) came.arrays) (still (table ∷ []) came.arrays) refl refl) came l
+      (straight [] (copy_begin size) (λ t k. ((new : ℕ) × IsNew came.arrays new × Copies new loop size t) × (k ≡ l)) _ code came l comes.running code_is
       (stands_front code came.finger (copy_begin size) (copy_word place loop done ++ copy_end i) stand) e
       (set (alloc (λ id new. nand (end (
         (
@@ -135,6 +143,9 @@ module _ (size i place table current : ℕ) (blocks code : List ℕ) (came : Sta
       ))))))
 
   module _ (new : ℕ) (is_new : IsNew came.arrays new) where
+    abbrev covered : Covers (table ∷ []) came.arrays (new ∷ [])
+    covered = covers_new (table ∷ []) came.arrays new [] is_new (covers_none (table ∷ []) came.arrays)
+
     -- after one word more, the loop goes on or is done
     abbrev After : ℕ → State → Type 0
     After zero t = Copies new done 0 t
@@ -149,11 +160,11 @@ module _ (size i place table current : ℕ) (blocks code : List ℕ) (came : Sta
         let code_there = zero_there new loop 1 t is_new c in
         let sum : (1 + 4294967295) % 2 ^ 32 ≡ 0 = refl in
         let sum2 : (place + 0) % 2 ^ 32 ≡ place + 0 = omega (arith, whole, small, lt) in
-        weaken_along (Quietly t.finger 9 t l) Along 9 _ (part t.finger 9 t (omega (arith, c.place_is)) (omega (arith, c.place_is)) code_there c.out_is c.rest_is) t l
-        (straight (copy_word place loop done) (λ u k. After 0 u × (k ≡ l)) _ code t l c.running code_there
+        weaken_along (Quietly t.finger 9 (new ∷ []) t l) Along 9 _ (part t.finger 9 (new ∷ []) t (omega (arith, c.place_is)) (omega (arith, c.place_is)) code_there covered (stays new loop 1 t is_new c) c.out_is c.rest_is) t l
+        (straight (new ∷ []) (copy_word place loop done) (λ u k. After 0 u × (k ≡ l)) _ code t l c.running code_there
         (subst (λ f. StandsAt code f (copy_word place loop done)) (sym c.place_is) (stands_front code loop (copy_word place loop done) (copy_end i) stand_loop)) c.registers_are
         (add_to 0 sum (set (add_to (place + 0) sum2 (index code_there (there code (place + 0) (omega (arith, whole, lt)))
-        (amend_last came.arrays (blank 1 words) c.arrays_are refl is_new.not_zero (get-blank 0 words (omega (arith, lt, long)))
+        (amend_last came.arrays (blank 1 words) c.arrays_are refl (named is_new.not_zero) (get-blank 0 words (omega (arith, lt, long)))
         (set (set (move_not refl (jump refl (
           record {
             running = refl;
@@ -171,11 +182,11 @@ module _ (size i place table current : ℕ) (blocks code : List ℕ) (came : Sta
         let code_there = zero_there new loop (suc (suc j)) t is_new c in
         let sum : (suc (suc j) + 4294967295) % 2 ^ 32 ≡ suc j = omega (arith, whole, small, lt) in
         let sum2 : (place + suc j) % 2 ^ 32 ≡ place + suc j = omega (arith, whole, small, lt) in
-        weaken_along (Quietly t.finger 9 t l) Along 9 _ (part t.finger 9 t (omega (arith, c.place_is)) (omega (arith, c.place_is)) code_there c.out_is c.rest_is) t l
-        (straight (copy_word place loop done) (λ u k. After (suc j) u × (k ≡ l)) _ code t l c.running code_there
+        weaken_along (Quietly t.finger 9 (new ∷ []) t l) Along 9 _ (part t.finger 9 (new ∷ []) t (omega (arith, c.place_is)) (omega (arith, c.place_is)) code_there covered (stays new loop (suc (suc j)) t is_new c) c.out_is c.rest_is) t l
+        (straight (new ∷ []) (copy_word place loop done) (λ u k. After (suc j) u × (k ≡ l)) _ code t l c.running code_there
         (subst (λ f. StandsAt code f (copy_word place loop done)) (sym c.place_is) (stands_front code loop (copy_word place loop done) (copy_end i) stand_loop)) c.registers_are
         (add_to (suc j) sum (set (add_to (place + suc j) sum2 (index code_there (there code (place + suc j) (omega (arith, whole, lt)))
-        (amend_last came.arrays (blank (suc (suc j)) words) c.arrays_are refl is_new.not_zero (get-blank (suc j) words (omega (arith, lt, long)))
+        (amend_last came.arrays (blank (suc (suc j)) words) c.arrays_are refl (named is_new.not_zero) (get-blank (suc j) words (omega (arith, lt, long)))
         (set (set (move (λ h. omega (arith, h)) (jump refl (
           record {
             running = refl;
@@ -211,10 +222,10 @@ module _ (size i place table current : ℕ) (blocks code : List ℕ) (came : Sta
       let at_end : came.finger + 3 + 9 ≡ came.finger + 12 = omega arith in
       let table_there : map.get t.arrays table ≡ Some blocks =
       ap (λ m. map.get m table) c.arrays_are ∙ get-insert_other came.arrays new words table (apart came.arrays new table blocks is_new blocks_are.there) ∙ blocks_are.there in
-      weaken_along (Quietly t.finger 2 t l) Along 2 _ (part t.finger 2 t (omega (arith, c.place_is)) (omega (arith, c.place_is)) code_there c.out_is c.rest_is) t l
-      (straight (copy_end i) (λ u k. Done u × (k ≡ l)) _ code t l c.running code_there
+      weaken_along (Quietly t.finger 2 (table ∷ []) t l) Along 2 _ (part t.finger 2 (table ∷ []) t (omega (arith, c.place_is)) (omega (arith, c.place_is)) code_there (covers_same (table ∷ []) came.arrays) (stays new done 0 t is_new c) c.out_is c.rest_is) t l
+      (straight (table ∷ []) (copy_end i) (λ u k. Done u × (k ≡ l)) _ code t l c.running code_there
       (subst (λ f. StandsAt code f (copy_end i)) (at_end ∙ sym c.place_is) (stands_back code loop (copy_word place loop done) (copy_end i) stand_loop)) c.registers_are
-      (set (amend blocks_are.not_zero table_there (there blocks i inside)
+      (set (amend (named blocks_are.not_zero) table_there (there blocks i inside)
       (end (
         (
           new,
@@ -252,5 +263,5 @@ module _ (size i place table current : ℕ) (blocks code : List ℕ) (came : Sta
 pub copy_block_law : CopyBlockLaw freely
 unfolding CopyBlockLaw
 copy_block_law size i place table current blocks code s comes blocks_are inside code_is some whole small l =
-    weaken (Quietly s.finger 14 s l) (5 + 9 * size) _ _ (λ t k h. (h.0, h.1 ∙ sym (append-nil l))) s l
+    weaken (Quietly s.finger 14 (table ∷ []) s l) (5 + 9 * size) _ _ (λ t k h. (h.0, h.1 ∙ sym (append-nil l))) s l
     (all size i place table current blocks code s l comes blocks_are inside code_is some whole small)

@@ -57,13 +57,13 @@ row_counts (Load b c) L id s fault z new e = by_zero (reg s b == 0) (map.get s.a
   where
     by_zero : (a : Bool) (o : Option (List ℕ)) → (if a then None else over_load L (moved s) o) ≡ Some fault →
         OnNext (if a then Goes (record (moved s) { finger = reg s c }) else with_some o LoadInactive (λ words. Goes (record (with_array (moved s) 0 words) { finger = reg s c })))
-        (IsCount fault (if a then [] else (array_at s.arrays (reg s b), reg s c) ∷ []) s)
+        (IsCount fault (if a then [] else record { words = array_at s.arrays (reg s b); offset = reg s c } ∷ []) s)
     by_zero true o e = no_limit fault _ e
     by_zero false None e = no_limit fault _ e
     by_zero false (Some words) e =
         let next : State = record (with_array (moved s) 0 words) { finger = reg s c } in
         let long = length_zero (map.insert s.arrays 0 words) words (get-insert_same s.arrays 0 words) in
-        load_over (nat_le (words_after_load (moved s) words) L.words) fault (words_after_load (moved s) words) (λ f. IsCount f ((array_at s.arrays (reg s b), reg s c) ∷ []) s next) (inr (omega (arith, long))) e
+        load_over (nat_le (words_after_load (moved s) words) L.words) fault (words_after_load (moved s) words) (λ f. IsCount f (record { words = array_at s.arrays (reg s b); offset = reg s c } ∷ []) s next) (inr (omega (arith, long))) e
 row_counts (Move a b c) L id s fault z new e = no_limit fault _ e
 row_counts _ L id s fault z new e = no_limit fault _ e
 

@@ -8,7 +8,7 @@ use Rattle.um_word.specs.Operators.{decode_word}
 use Rattle.um_word.specs.State.{State, Arrays, array_at, reg, with_reg, with_array, platter}
 use Rattle.um_word.specs.Table.{FingerOutside, BadOperator, IndexInactive, IndexOutside, AmendInactive, AmendOutside, AbandonZero, AbandonInactive, LoadInactive, DivideByZero, OutputTooLarge, Next, Goes, Stops, with_some, with_byte, moved, quotient, op_under}
 use Rattle.um_word.specs.Free.{free_row, free_cycle}
-use Rattle.um_word.specs.Loads.{Loads, load_by, next_load}
+use Rattle.um_word.specs.Loads.{Loaded, Loads, load_by, next_load}
 use Rattle.um_word.specs.Leads.{IsNew, OnGoing, Leads}
 use Rattle.um_word.proofs.Leading.{on_going}
 use Rattle.um_word.proofs.Arrays.{get-insert_same, get-insert_other, len-insert_new, len-insert_old}
@@ -127,7 +127,7 @@ counted I Q n s l h =
 pub one_load : (o : Option Op) (s : State) → length (load_by o s) ≤ 1
 one_load (Some (Load b c)) s = by_zero (reg s b == 0)
   where
-    by_zero : (z : Bool) → length {A = List ℕ × ℕ} (if z then [] else (array_at s.arrays (reg s b), reg s c) ∷ []) ≤ 1
+    by_zero : (z : Bool) → length {A = Loaded} (if z then [] else record { words = array_at s.arrays (reg s b); offset = reg s c } ∷ []) ≤ 1
     by_zero true = omega arith
     by_zero false = omega arith
 one_load None s = omega arith

@@ -29,19 +29,19 @@ has_along I Q n t l h = h.1
 
 -- where so many cycles are left, the machine is on its course
 on_course : (course : Course) (Q : State → Type 0) (s : State) (n left : ℕ) (loads : Loads) (t : State) → course.cycles ≡ n + left →
-    Leads (Quietly s.finger course.size s []) left (λ t k. Q t × (k ≡ course.loads)) t loads → IsOnCourse course Q s n loads t
+    Leads (Quietly s.finger course.size course.amends s []) left (λ t k. Q t × (k ≡ course.loads)) t loads → IsOnCourse course Q s n loads t
 on_course course Q s n zero loads t e way = record {
   before = λ lt. absurd (omega (arith, lt, e));
-  after = λ same. is_there (Quietly s.finger course.size s []) (λ t k. Q t × (k ≡ course.loads)) t loads way;
+  after = λ same. is_there (Quietly s.finger course.size course.amends s []) (λ t k. Q t × (k ≡ course.loads)) t loads way;
 }
 on_course course Q s n (suc left) loads t e way = record {
-  before = λ lt. has_along (Quietly s.finger course.size s []) (λ t k. Q t × (k ≡ course.loads)) left t loads way;
+  before = λ lt. has_along (Quietly s.finger course.size course.amends s []) (λ t k. Q t × (k ≡ course.loads)) left t loads way;
   after = λ same. absurd (omega (arith, same, e));
 }
 
-pub in_runs : (course : Course) (Q : State → Type 0) (s : State) → Freely course.size course.cycles course.loads Q s → InRuns course Q s
+pub in_runs : (course : Course) (Q : State → Type 0) (s : State) → Freely course.size course.cycles course.amends course.loads Q s → InRuns course Q s
 in_runs course Q s h L ids n le legal =
-    let I = Quietly s.finger course.size s [] in
+    let I = Quietly s.finger course.size course.amends s [] in
     let all = loads_by first_of ids_left L n ids s in
     let R : State → Loads → Type 0 = λ t k. Q t × (k ≡ course.loads) in
     let left = course.cycles - n in

@@ -1,3 +1,4 @@
+pub mod Still
 pub mod Lines
 pub mod Straight
 pub mod BlockLaws

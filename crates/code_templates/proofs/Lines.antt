@@ -16,9 +16,10 @@ use Rattle.um_word.proofs.Live.{insert_again}
 use Rattle.um_word.specs.Free.{free_row, free_cycle}
 use Rattle.um_word.specs.Loads.{Loads, next_load, load_by}
 use Rattle.um_word.specs.Leads.{IsNew, OnGoing, Leads}
-use Rattle.code_templates.specs.Lines.{StandsAt, IsOwn}
+use Rattle.code_templates.specs.Lines.{StandsAt, StandStill, IsOwn}
 use Rattle.code_templates.specs.Laws.{Quietly}
 use Rattle.um_word.proofs.Leading.{no_step, one_more}
+use Rattle.code_templates.proofs.Still.{MayAmend, still, still_amended, still_allocated}
 
 -- where a line leaves: at the word after it, at a place of the same words, in the words of another array, or halted
 pub data Exit : Type 0 where
@@ -28,7 +29,7 @@ pub data Exit : Type 0 where
   Halts : Exit
 
 abbrev pub exit_loads : Exit → Loads
-exit_loads (Enters words place) = (words, place) ∷ []
+exit_loads (Enters words place) = record { words = words; offset = place } ∷ []
 exit_loads _ = []
 
 -- the state with this finger and this number of cycles, running
@@ -51,94 +52,95 @@ abbrev Enter : (Exit → State → Type 0) → State → ℕ → ℕ → Type 0
 Enter Q s zero place = Q (Jumps place) s
 Enter Q s (suc n) place = (words : List ℕ) × (map.get s.arrays (suc n) ≡ Some words) × Q (Enters words place) s
 
--- what is to hold before a line, so that Q holds where it leaves
-unfoldable line : List Op → (Exit → State → Type 0) → State → Type 0
-line [] Q s = Q Falls s
-line (Set a value ∷ ops) Q s = line ops Q (with_reg s a value)
-line (Move a b c ∷ ops) Q s = line ops Q (at_zero (reg s c) s (with_reg s a (reg s b)))
-line (Index a b c ∷ ops) Q s =
-    (words : List ℕ) × (word : ℕ) × (map.get s.arrays (reg s b) ≡ Some words) × (slice_get words (reg s c) ≡ Some word) × line ops Q (with_reg s a word)
-line (Amend a b c ∷ ops) Q s =
-    (words : List ℕ) × (word : ℕ) × (reg s a ≢ 0) × (map.get s.arrays (reg s a) ≡ Some words) × (slice_get words (reg s b) ≡ Some word)
-    × line ops Q (with_array s (reg s a) (slice_set words (reg s b) (reg s c)))
-line (Add a b c ∷ ops) Q s = line ops Q (with_reg s a ((reg s b + reg s c) % 2 ^ 32))
-line (Nand a b c ∷ ops) Q s = line ops Q (with_reg s a (2 ^ 32 - 1 - bit_and (reg s b) (reg s c)))
-line (Alloc b c ∷ ops) Q s = (id : ℕ) → IsNew s.arrays id → line ops Q (with_reg (with_array s id (replicate (reg s c) 0)) b id)
-line (Out c ∷ []) Q s = (reg s c < 256) × Q Falls (record s { out = s.out ++ reg s c ∷ [] })
-line (Halt ∷ []) Q s = Q Halts s
-line (Load b c ∷ []) Q s = Enter Q s (reg s b) (reg s c)
-line _ Q s = ⊥
+-- What is to hold before a line, so that Q holds where it leaves, and of the arrays that stood
+-- there none is amended but for these.
+unfoldable line : (but : List ℕ) → Arrays → List Op → (Exit → State → Type 0) → State → Type 0
+line but stood [] Q s = Q Falls s
+line but stood (Set a value ∷ ops) Q s = line but stood ops Q (with_reg s a value)
+line but stood (Move a b c ∷ ops) Q s = line but stood ops Q (at_zero (reg s c) s (with_reg s a (reg s b)))
+line but stood (Index a b c ∷ ops) Q s =
+    (words : List ℕ) × (word : ℕ) × (map.get s.arrays (reg s b) ≡ Some words) × (slice_get words (reg s c) ≡ Some word) × line but stood ops Q (with_reg s a word)
+line but stood (Amend a b c ∷ ops) Q s =
+    (words : List ℕ) × (word : ℕ) × MayAmend but stood (reg s a) × (map.get s.arrays (reg s a) ≡ Some words) × (slice_get words (reg s b) ≡ Some word)
+    × line but stood ops Q (with_array s (reg s a) (slice_set words (reg s b) (reg s c)))
+line but stood (Add a b c ∷ ops) Q s = line but stood ops Q (with_reg s a ((reg s b + reg s c) % 2 ^ 32))
+line but stood (Nand a b c ∷ ops) Q s = line but stood ops Q (with_reg s a (2 ^ 32 - 1 - bit_and (reg s b) (reg s c)))
+line but stood (Alloc b c ∷ ops) Q s = (id : ℕ) → IsNew s.arrays id → line but stood ops Q (with_reg (with_array s id (replicate (reg s c) 0)) b id)
+line but stood (Out c ∷ []) Q s = (reg s c < 256) × Q Falls (record s { out = s.out ++ reg s c ∷ [] })
+line but stood (Halt ∷ []) Q s = Q Halts s
+line but stood (Load b c ∷ []) Q s = Enter Q s (reg s b) (reg s c)
+line but stood _ Q s = ⊥
 
-pub record Line (ops : List Op) (Q : Exit → State → Type 0) (s : State) : Type 0 where
-  by : line ops Q s
+pub record Line (but : List ℕ) (stood : Arrays) (ops : List Op) (Q : Exit → State → Type 0) (s : State) : Type 0 where
+  by : line but stood ops Q s
 
-pub end : {Q : Exit → State → Type 0} {s : State} → Q Falls s → Line [] Q s
+pub end : {but : List ℕ} {stood : Arrays} {Q : Exit → State → Type 0} {s : State} → Q Falls s → Line but stood [] Q s
 unfolding line
 end h = record { by = h }
 
-pub set : {a v : ℕ} {ops : List Op} {Q : Exit → State → Type 0} {s : State} → Line ops Q (with_reg s a v) → Line (Set a v ∷ ops) Q s
+pub set : {but : List ℕ} {stood : Arrays} {a v : ℕ} {ops : List Op} {Q : Exit → State → Type 0} {s : State} → Line but stood ops Q (with_reg s a v) → Line but stood (Set a v ∷ ops) Q s
 unfolding line
 set l = record { by = l.by }
 
-pub index : {a b c word : ℕ} {words : List ℕ} {ops : List Op} {Q : Exit → State → Type 0} {s : State} →
-    map.get s.arrays (reg s b) ≡ Some words → slice_get words (reg s c) ≡ Some word → Line ops Q (with_reg s a word) → Line (Index a b c ∷ ops) Q s
+pub index : {but : List ℕ} {stood : Arrays} {a b c word : ℕ} {words : List ℕ} {ops : List Op} {Q : Exit → State → Type 0} {s : State} →
+    map.get s.arrays (reg s b) ≡ Some words → slice_get words (reg s c) ≡ Some word → Line but stood ops Q (with_reg s a word) → Line but stood (Index a b c ∷ ops) Q s
 unfolding line
 index {word = word} {words = words} h g l = record { by = (words, word, h, g, l.by) }
 
-pub amend : {a b c word : ℕ} {words : List ℕ} {ops : List Op} {Q : Exit → State → Type 0} {s : State} →
-    reg s a ≢ 0 → map.get s.arrays (reg s a) ≡ Some words → slice_get words (reg s b) ≡ Some word →
-    Line ops Q (with_array s (reg s a) (slice_set words (reg s b) (reg s c))) → Line (Amend a b c ∷ ops) Q s
+pub amend : {but : List ℕ} {stood : Arrays} {a b c word : ℕ} {words : List ℕ} {ops : List Op} {Q : Exit → State → Type 0} {s : State} →
+    MayAmend but stood (reg s a) → map.get s.arrays (reg s a) ≡ Some words → slice_get words (reg s b) ≡ Some word →
+    Line but stood ops Q (with_array s (reg s a) (slice_set words (reg s b) (reg s c))) → Line but stood (Amend a b c ∷ ops) Q s
 unfolding line
 amend {word = word} {words = words} n h g l = record { by = (words, word, n, h, g, l.by) }
 
 -- the arrays are those with one put last
-pub amend_last : {a b c word k : ℕ} {ops : List Op} {Q : Exit → State → Type 0} {s : State} (m : Arrays) (words : List ℕ) →
-    s.arrays ≡ map.insert m k words → reg s a ≡ k → k ≢ 0 → slice_get words (reg s b) ≡ Some word →
-    Line ops Q (record s { arrays = map.insert m k (slice_set words (reg s b) (reg s c)) }) → Line (Amend a b c ∷ ops) Q s
-amend_last {a = a} {b = b} {c = c} {k = k} {ops = ops} {Q = Q} {s = s} m words is e n g l =
+pub amend_last : {but : List ℕ} {stood : Arrays} {a b c word k : ℕ} {ops : List Op} {Q : Exit → State → Type 0} {s : State} (m : Arrays) (words : List ℕ) →
+    s.arrays ≡ map.insert m k words → reg s a ≡ k → MayAmend but stood k → slice_get words (reg s b) ≡ Some word →
+    Line but stood ops Q (record s { arrays = map.insert m k (slice_set words (reg s b) (reg s c)) }) → Line but stood (Amend a b c ∷ ops) Q s
+amend_last {but = but} {stood = stood} {a = a} {b = b} {c = c} {k = k} {ops = ops} {Q = Q} {s = s} m words is e n g l =
     let there : map.get s.arrays (reg s a) ≡ Some words = ap (λ x. map.get x (reg s a)) is ∙ ap (map.get (map.insert m k words)) e ∙ get-insert_same m k words in
     let same : map.insert m k (slice_set words (reg s b) (reg s c)) ≡ map.insert s.arrays (reg s a) (slice_set words (reg s b) (reg s c)) =
     sym ((λ i. map.insert (is i) (e i) (slice_set words (reg s b) (reg s c))) ∙ insert_again m k words (slice_set words (reg s b) (reg s c))) in
-    amend (λ z. n (sym e ∙ z)) there g (subst (λ x. Line ops Q (record s { arrays = x })) same l)
+    amend (subst (MayAmend but stood) (sym e) n) there g (subst (λ x. Line but stood ops Q (record s { arrays = x })) same l)
 
-pub add : {a b c : ℕ} {ops : List Op} {Q : Exit → State → Type 0} {s : State} → Line ops Q (with_reg s a ((reg s b + reg s c) % 2 ^ 32)) → Line (Add a b c ∷ ops) Q s
+pub add : {but : List ℕ} {stood : Arrays} {a b c : ℕ} {ops : List Op} {Q : Exit → State → Type 0} {s : State} → Line but stood ops Q (with_reg s a ((reg s b + reg s c) % 2 ^ 32)) → Line but stood (Add a b c ∷ ops) Q s
 unfolding line
 add l = record { by = l.by }
 
 -- the sum is x
-pub add_to : {a b c : ℕ} {ops : List Op} {Q : Exit → State → Type 0} {s : State} (x : ℕ) → (reg s b + reg s c) % 2 ^ 32 ≡ x → Line ops Q (with_reg s a x) → Line (Add a b c ∷ ops) Q s
-add_to {a = a} {ops = ops} {Q = Q} {s = s} x e l = add (subst (λ y. Line ops Q (with_reg s a y)) (sym e) l)
+pub add_to : {but : List ℕ} {stood : Arrays} {a b c : ℕ} {ops : List Op} {Q : Exit → State → Type 0} {s : State} (x : ℕ) → (reg s b + reg s c) % 2 ^ 32 ≡ x → Line but stood ops Q (with_reg s a x) → Line but stood (Add a b c ∷ ops) Q s
+add_to {but = but} {stood = stood} {a = a} {ops = ops} {Q = Q} {s = s} x e l = add (subst (λ y. Line but stood ops Q (with_reg s a y)) (sym e) l)
 
-pub nand : {a b c : ℕ} {ops : List Op} {Q : Exit → State → Type 0} {s : State} → Line ops Q (with_reg s a (2 ^ 32 - 1 - bit_and (reg s b) (reg s c))) → Line (Nand a b c ∷ ops) Q s
+pub nand : {but : List ℕ} {stood : Arrays} {a b c : ℕ} {ops : List Op} {Q : Exit → State → Type 0} {s : State} → Line but stood ops Q (with_reg s a (2 ^ 32 - 1 - bit_and (reg s b) (reg s c))) → Line but stood (Nand a b c ∷ ops) Q s
 unfolding line
 nand l = record { by = l.by }
 
-pub alloc : {b c : ℕ} {ops : List Op} {Q : Exit → State → Type 0} {s : State} →
-    ((id : ℕ) → IsNew s.arrays id → Line ops Q (with_reg (with_array s id (replicate (reg s c) 0)) b id)) → Line (Alloc b c ∷ ops) Q s
+pub alloc : {but : List ℕ} {stood : Arrays} {b c : ℕ} {ops : List Op} {Q : Exit → State → Type 0} {s : State} →
+    ((id : ℕ) → IsNew s.arrays id → Line but stood ops Q (with_reg (with_array s id (replicate (reg s c) 0)) b id)) → Line but stood (Alloc b c ∷ ops) Q s
 unfolding line
 alloc l = record { by = λ id new. (l id new).by }
 
-moves : (n : ℕ) (ops : List Op) (Q : Exit → State → Type 0) (s t : State) → n ≢ 0 → line ops Q t → line ops Q (at_zero n s t)
-moves zero ops Q s t ne l = absurd (ne refl)
-moves (suc n) ops Q s t ne l = l
+moves : (but : List ℕ) (stood : Arrays) (n : ℕ) (ops : List Op) (Q : Exit → State → Type 0) (s t : State) → n ≢ 0 → line but stood ops Q t → line but stood ops Q (at_zero n s t)
+moves but stood zero ops Q s t ne l = absurd (ne refl)
+moves but stood (suc n) ops Q s t ne l = l
 
-pub move : {a b c : ℕ} {ops : List Op} {Q : Exit → State → Type 0} {s : State} → reg s c ≢ 0 → Line ops Q (with_reg s a (reg s b)) → Line (Move a b c ∷ ops) Q s
+pub move : {but : List ℕ} {stood : Arrays} {a b c : ℕ} {ops : List Op} {Q : Exit → State → Type 0} {s : State} → reg s c ≢ 0 → Line but stood ops Q (with_reg s a (reg s b)) → Line but stood (Move a b c ∷ ops) Q s
 unfolding line
-move {a = a} {b = b} {c = c} {ops = ops} {Q = Q} {s = s} ne l = record { by = moves (reg s c) ops Q s (with_reg s a (reg s b)) ne l.by }
+move {but = but} {stood = stood} {a = a} {b = b} {c = c} {ops = ops} {Q = Q} {s = s} ne l = record { by = moves but stood (reg s c) ops Q s (with_reg s a (reg s b)) ne l.by }
 
-pub move_not : {a b c : ℕ} {ops : List Op} {Q : Exit → State → Type 0} {s : State} → reg s c ≡ 0 → Line ops Q s → Line (Move a b c ∷ ops) Q s
+pub move_not : {but : List ℕ} {stood : Arrays} {a b c : ℕ} {ops : List Op} {Q : Exit → State → Type 0} {s : State} → reg s c ≡ 0 → Line but stood ops Q s → Line but stood (Move a b c ∷ ops) Q s
 unfolding line
-move_not {a = a} {b = b} {c = c} {ops = ops} {Q = Q} {s = s} e l = record { by = subst (λ n. line ops Q (at_zero n s (with_reg s a (reg s b)))) (sym e) l.by }
+move_not {but = but} {stood = stood} {a = a} {b = b} {c = c} {ops = ops} {Q = Q} {s = s} e l = record { by = subst (λ n. line but stood ops Q (at_zero n s (with_reg s a (reg s b)))) (sym e) l.by }
 
-pub out : {c : ℕ} {Q : Exit → State → Type 0} {s : State} → reg s c < 256 → Q Falls (record s { out = s.out ++ reg s c ∷ [] }) → Line (Out c ∷ []) Q s
+pub out : {but : List ℕ} {stood : Arrays} {c : ℕ} {Q : Exit → State → Type 0} {s : State} → reg s c < 256 → Q Falls (record s { out = s.out ++ reg s c ∷ [] }) → Line but stood (Out c ∷ []) Q s
 unfolding line
 out lt h = record { by = (lt, h) }
 
-pub halt : {Q : Exit → State → Type 0} {s : State} → Q Halts s → Line (Halt ∷ []) Q s
+pub halt : {but : List ℕ} {stood : Arrays} {Q : Exit → State → Type 0} {s : State} → Q Halts s → Line but stood (Halt ∷ []) Q s
 unfolding line
 halt h = record { by = h }
 
-pub jump : {b c : ℕ} {Q : Exit → State → Type 0} {s : State} → reg s b ≡ 0 → Q (Jumps (reg s c)) s → Line (Load b c ∷ []) Q s
+pub jump : {but : List ℕ} {stood : Arrays} {b c : ℕ} {Q : Exit → State → Type 0} {s : State} → reg s b ≡ 0 → Q (Jumps (reg s c)) s → Line but stood (Load b c ∷ []) Q s
 unfolding line
 jump {c = c} {Q = Q} {s = s} e h = record { by = subst (λ n. Enter Q s n (reg s c)) (sym e) h }
 
@@ -146,7 +148,7 @@ enters : (n : ℕ) (place : ℕ) (words : List ℕ) (Q : Exit → State → Type
 enters zero place words Q s ne e h = absurd (ne refl)
 enters (suc n) place words Q s ne e h = (words, e, h)
 
-pub enter : {b c : ℕ} {words : List ℕ} {Q : Exit → State → Type 0} {s : State} → reg s b ≢ 0 → map.get s.arrays (reg s b) ≡ Some words → Q (Enters words (reg s c)) s → Line (Load b c ∷ []) Q s
+pub enter : {but : List ℕ} {stood : Arrays} {b c : ℕ} {words : List ℕ} {Q : Exit → State → Type 0} {s : State} → reg s b ≢ 0 → map.get s.arrays (reg s b) ≡ Some words → Q (Enters words (reg s c)) s → Line but stood (Load b c ∷ []) Q s
 unfolding line
 enter {b = b} {c = c} {words = words} {Q = Q} {s = s} ne e h = record { by = enters (reg s b) (reg s c) words Q s ne e h }
 
@@ -185,16 +187,17 @@ pub record Left (Q : Exit → State → Type 0) (next cycles : ℕ) (loads : Loa
   pub is : u ≡ left_by exit state next cycles
   pub loaded : l ≡ loads ++ exit_loads exit
 
-module _ (place size : ℕ) (code : List ℕ) (came : State) (loads : Loads) (Q : Exit → State → Type 0)
+module _ (place size : ℕ) (but : List ℕ) (code : List ℕ) (came : State) (loads : Loads) (Q : Exit → State → Type 0)
     (zero_there : map.get came.arrays 0 ≡ Some code) where
   abbrev Along : State → Loads → Type 0
-  Along = Quietly place size came loads
+  Along = Quietly place size but came loads
 
   -- the machine stands at the operators
   record Stood (ops : List Op) (s : State) (f : ℕ) : Type 0 where
     from : place ≤ f
     to : f + length ops ≤ place + size
     zero : map.get s.arrays 0 ≡ Some code
+    stays : StandStill but came.arrays s.arrays
     out : s.out ≡ came.out
     rest : s.rest ≡ came.rest
     stand : StandsAt code f ops
@@ -208,6 +211,7 @@ module _ (place size : ℕ) (code : List ℕ) (came : State) (loads : Loads) (Q 
       from = h.from;
       to = let e = h.to in omega (arith, e);
       code = h.zero ∙ sym zero_there;
+      stays = h.stays;
       out = h.out;
       rest = h.rest;
       own = record { own = subst IsOwn (sym (under op ops s f c h)) own; not_zero = λ a b c2 e. beside a b c2 (sym (under op ops s f c h) ∙ e) };
@@ -232,11 +236,12 @@ module _ (place size : ℕ) (code : List ℕ) (came : State) (loads : Loads) (Q 
       (subst (λ x. Leads Along (length ops) (Left Q x (c + suc (length ops)) loads) (at_place t (f + 1) (c + 1)) loads) e
       (subst (λ x. Leads Along (length ops) (Left Q (f + 1 + length ops) x loads) (at_place t (f + 1) (c + 1)) loads) d h2)))
 
-  next : (op : Op) (ops : List Op) (s t : State) (f : ℕ) → Stood (op ∷ ops) s f → map.get t.arrays 0 ≡ map.get s.arrays 0 → t.out ≡ s.out → t.rest ≡ s.rest → Stood ops t (f + 1)
-  next op ops s t f h code written input = record {
+  next : (op : Op) (ops : List Op) (s t : State) (f : ℕ) → Stood (op ∷ ops) s f → map.get t.arrays 0 ≡ map.get s.arrays 0 → StandStill but came.arrays t.arrays → t.out ≡ s.out → t.rest ≡ s.rest → Stood ops t (f + 1)
+  next op ops s t f h code stays written input = record {
     from = let e = h.from in omega (arith, e);
     to = let e = h.to in omega (arith, e);
     zero = code ∙ h.zero;
+    stays = stays;
     out = written ∙ h.out;
     rest = input ∙ h.rest;
     stand = h.stand.1;
@@ -278,15 +283,15 @@ module _ (place size : ℕ) (code : List ℕ) (came : State) (loads : Loads) (Q 
   load_leads : (n b c : ℕ) (s : State) (f cycles : ℕ) → Stood (Load b c ∷ []) s f → reg s b ≡ n → Enter Q s n (reg s c) → Comes (Load b c ∷ []) f cycles (at_place s f cycles) loads
   load_leads zero b c s f cycles h e q =
       last_leads (Load b c) s f cycles h tt (no_amend (Load b c) s refl) (Jumps (reg s c)) s (λ id. ap (λ n. loaded_row n (n == 0) s f cycles (reg s c)) e)
-      (ap (λ n. if n == 0 then [] else (array_at s.arrays n, reg s c) ∷ []) e) q
+      (ap (λ n. if n == 0 then [] else record { words = array_at s.arrays n; offset = reg s c } ∷ []) e) q
   load_leads (suc n) b c s f cycles h e q =
       last_leads (Load b c) s f cycles h tt (no_amend (Load b c) s refl) (Enters q.0 (reg s c)) s
       (λ id. ap (λ n. loaded_row n (n == 0) s f cycles (reg s c)) e ∙ ap (λ x. loaded_row (suc n) x s f cycles (reg s c)) (eqb-suc-zero n)
       ∙ ap (λ o. with_some o LoadInactive (λ words. Goes (record (with_array (moved (at_place s f cycles)) 0 words) { finger = reg s c }))) q.1)
-      (ap (λ n. if n == 0 then [] else (array_at s.arrays n, reg s c) ∷ []) e ∙ ap (λ x. if x then [] else (array_at s.arrays (suc n), reg s c) ∷ []) (eqb-suc-zero n)
-      ∙ ap (λ o. (unwrap_or o [], reg s c) ∷ []) q.1) q.2
+      (ap (λ n. if n == 0 then [] else record { words = array_at s.arrays n; offset = reg s c } ∷ []) e ∙ ap (λ x. if x then [] else record { words = array_at s.arrays (suc n); offset = reg s c } ∷ []) (eqb-suc-zero n)
+      ∙ ap (λ o. record { words = unwrap_or o []; offset = reg s c } ∷ []) q.1) q.2
 
-  line_leads : (ops : List Op) (s : State) (f c : ℕ) → Stood ops s f → line ops Q s → Comes ops f c (at_place s f c) loads
+  line_leads : (ops : List Op) (s : State) (f c : ℕ) → Stood ops s f → line but came.arrays ops Q s → Comes ops f c (at_place s f c) loads
   unfolding line
   line_leads [] s f c h q =
       let e : f ≡ f + 0 = omega arith in
@@ -295,7 +300,7 @@ module _ (place size : ℕ) (code : List ℕ) (came : State) (loads : Loads) (Q 
       (record { exit = Falls; state = s; holds = q; is = λ i. at_place s (e i) (d i); loaded = sym (append-nil loads) })
   line_leads (Set a value ∷ ops) s f c h q =
       row_leads (Set a value) ops s f c h tt (no_amend (Set a value) s refl) refl (λ id new.
-      (with_reg s a value, refl, line_leads ops (with_reg s a value) (f + 1) (c + 1) (next (Set a value) ops s (with_reg s a value) f h refl refl refl) q))
+      (with_reg s a value, refl, line_leads ops (with_reg s a value) (f + 1) (c + 1) (next (Set a value) ops s (with_reg s a value) f h refl h.stays refl refl) q))
   line_leads (Move a b r ∷ ops) s f c h q =
       row_leads (Move a b r) ops s f c h tt (no_amend (Move a b r) s refl) refl (λ id new. (
         at_zero (reg s r) s (with_reg s a (reg s b)),
@@ -303,6 +308,7 @@ module _ (place size : ℕ) (code : List ℕ) (came : State) (loads : Loads) (Q 
         line_leads ops (at_zero (reg s r) s (with_reg s a (reg s b))) (f + 1) (c + 1)
             (next (Move a b r) ops s (at_zero (reg s r) s (with_reg s a (reg s b))) f h
             (kept (reg s r) a b s (λ t. map.get t.arrays 0 ≡ map.get s.arrays 0) refl refl)
+            (kept (reg s r) a b s (λ t. StandStill but came.arrays t.arrays) h.stays h.stays)
             (kept (reg s r) a b s (λ t. t.out ≡ s.out) refl refl) (kept (reg s r) a b s (λ t. t.rest ≡ s.rest) refl refl)) q,
       ))
   line_leads (Index a b r ∷ ops) s f c h q =
@@ -310,28 +316,33 @@ module _ (place size : ℕ) (code : List ℕ) (came : State) (loads : Loads) (Q 
         with_reg s a q.1,
         ap (λ o. with_some o IndexInactive (λ words. with_some (slice_get words (reg s r)) IndexOutside (λ word. Goes (with_reg (moved (at_place s f c)) a word)))) q.2
             ∙ ap (λ o. with_some o IndexOutside (λ word. Goes (with_reg (moved (at_place s f c)) a word))) q.3,
-        line_leads ops (with_reg s a q.1) (f + 1) (c + 1) (next (Index a b r) ops s (with_reg s a q.1) f h refl refl refl) q.4,
+        line_leads ops (with_reg s a q.1) (f + 1) (c + 1) (next (Index a b r) ops s (with_reg s a q.1) f h refl h.stays refl refl) q.4,
       ))
   line_leads (Amend a b r ∷ ops) s f c h q =
       let t = with_array s (reg s a) (slice_set q.0 (reg s b) (reg s r)) in
-      row_leads (Amend a b r) ops s f c h tt (amend_beside a b r s q.2) refl (λ id new. (
+      row_leads (Amend a b r) ops s f c h tt (amend_beside a b r s q.2.not_zero) refl (λ id new. (
         t,
         ap (λ o. with_some o AmendInactive (λ words. with_some (slice_get words (reg s b)) AmendOutside (λ _. Goes (with_array (moved (at_place s f c)) (reg s a) (slice_set words (reg s b) (reg s r)))))) q.3
             ∙ ap (λ o. with_some o AmendOutside (λ _. Goes (with_array (moved (at_place s f c)) (reg s a) (slice_set q.0 (reg s b) (reg s r))))) q.4,
         line_leads ops t (f + 1) (c + 1)
-            (next (Amend a b r) ops s t f h (get-insert_other s.arrays (reg s a) (slice_set q.0 (reg s b) (reg s r)) 0 (λ e. q.2 (sym e))) refl refl) q.5,
+            (next (Amend a b r) ops s t f h (get-insert_other s.arrays (reg s a) (slice_set q.0 (reg s b) (reg s r)) 0 (λ e. q.2.not_zero (sym e)))
+            (still_amended but came.arrays s.arrays (reg s a) (slice_set q.0 (reg s b) (reg s r)) q.2 h.stays) refl refl) q.5,
       ))
   line_leads (Add a b r ∷ ops) s f c h q =
       let t = with_reg s a ((reg s b + reg s r) % 2 ^ 32) in
-      row_leads (Add a b r) ops s f c h tt (no_amend (Add a b r) s refl) refl (λ id new. (t, refl, line_leads ops t (f + 1) (c + 1) (next (Add a b r) ops s t f h refl refl refl) q))
+      row_leads (Add a b r) ops s f c h tt (no_amend (Add a b r) s refl) refl (λ id new. (t, refl, line_leads ops t (f + 1) (c + 1) (next (Add a b r) ops s t f h refl h.stays refl refl) q))
   line_leads (Nand a b r ∷ ops) s f c h q =
       let t = with_reg s a (2 ^ 32 - 1 - bit_and (reg s b) (reg s r)) in
-      row_leads (Nand a b r) ops s f c h tt (no_amend (Nand a b r) s refl) refl (λ id new. (t, refl, line_leads ops t (f + 1) (c + 1) (next (Nand a b r) ops s t f h refl refl refl) q))
+      row_leads (Nand a b r) ops s f c h tt (no_amend (Nand a b r) s refl) refl (λ id new. (t, refl, line_leads ops t (f + 1) (c + 1) (next (Nand a b r) ops s t f h refl h.stays refl refl) q))
   line_leads (Alloc b r ∷ ops) s f c h q =
       row_leads (Alloc b r) ops s f c h tt (no_amend (Alloc b r) s refl) refl (λ id new.
       let t = with_reg (with_array s id (replicate (reg s r) 0)) b id in
-      let k = new refl in
-      (t, refl, line_leads ops t (f + 1) (c + 1) (next (Alloc b r) ops s t f h (get-insert_other s.arrays id (replicate (reg s r) 0) 0 (λ e. k.not_zero (sym e))) refl refl) (q id k)))
+      let k = new refl in (
+        t,
+        refl,
+        line_leads ops t (f + 1) (c + 1) (next (Alloc b r) ops s t f h (get-insert_other s.arrays id (replicate (reg s r) 0) 0 (λ e. k.not_zero (sym e)))
+            (still_allocated but came.arrays s.arrays id (replicate (reg s r) 0) k h.stays) refl refl) (q id k),
+      ))
   line_leads (Out r ∷ []) s f c h q =
       last_leads (Out r) s f c h tt (no_amend (Out r) s refl) Falls (record s { out = s.out ++ reg s r ∷ [] })
       (λ id. ap (λ b. if b then Goes (record (moved (at_place s f c)) { out = s.out ++ reg s r ∷ [] }) else Stops OutputTooLarge) (lt-ltb (reg s r) 256 q.0)) refl q.1
@@ -346,11 +357,11 @@ module _ (place size : ℕ) (code : List ℕ) (came : State) (loads : Loads) (Q 
   line_leads (Input r ∷ ops) s f c h q = absurd q
 
 -- From a state where a line's operators stand under the finger, the machine comes to where the line leaves.
-pub leads : (ops : List Op) (Q : Exit → State → Type 0) (code : List ℕ) (s : State) (l : Loads) →
-    s.halted ≡ false → map.get s.arrays 0 ≡ Some code → StandsAt code s.finger ops → Line ops Q s →
-    Leads (Quietly s.finger (length ops) s l) (length ops) (Left Q (s.finger + length ops) (s.cycles + length ops) l) s l
-leads ops Q code s l running zero_there stand q =
-    subst (λ x. Leads (Quietly s.finger (length ops) s l) (length ops) (Left Q (s.finger + length ops) (s.cycles + length ops) l) x l)
+pub leads : (but : List ℕ) (ops : List Op) (Q : Exit → State → Type 0) (code : List ℕ) (s : State) (l : Loads) →
+    s.halted ≡ false → map.get s.arrays 0 ≡ Some code → StandsAt code s.finger ops → Line but s.arrays ops Q s →
+    Leads (Quietly s.finger (length ops) but s l) (length ops) (Left Q (s.finger + length ops) (s.cycles + length ops) l) s l
+leads but ops Q code s l running zero_there stand q =
+    subst (λ x. Leads (Quietly s.finger (length ops) but s l) (length ops) (Left Q (s.finger + length ops) (s.cycles + length ops) l) x l)
     (λ i. record s { halted = sym running i })
-    (line_leads s.finger (length ops) code s l Q zero_there ops s s.finger s.cycles
-    (record { from = omega arith; to = omega arith; zero = zero_there; out = refl; rest = refl; stand = stand }) q.by)
+    (line_leads s.finger (length ops) but code s l Q zero_there ops s s.finger s.cycles
+    (record { from = omega arith; to = omega arith; zero = zero_there; stays = still but s.arrays; out = refl; rest = refl; stand = stand }) q.by)

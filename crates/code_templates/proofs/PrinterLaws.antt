@@ -7,14 +7,15 @@ use Rattle.code_templates.specs.Laws.{Leaves, chosen_word, StartTextLaw, WriteBy
 use Rattle.code_templates.specs.inner.Freely.{Freely, freely, ArrivesAt}
 use Rattle.code_templates.proofs.Lines.{end, set, index, amend_last, add_to, alloc, move, move_not, jump}
 use Rattle.code_templates.proofs.Lines as lines
+use Rattle.code_templates.proofs.Still.{fresh}
 use Rattle.code_templates.proofs.Straight.{template, there, arrives}
 
 start_by : (v x value trail table : ℕ) (s : State) → reg s 3 ≡ v → reg s 4 ≡ x → ArrivesAt (start_text value trail) table 0 s →
-    Freely 6 6 [] (λ t. Leaves (chosen_word v value trail) table (chosen_word v (reg s 3) x) s.arrays s.out s t) s
+    Freely 6 6 [] [] (λ t. Leaves (chosen_word v value trail) table (chosen_word v (reg s 3) x) s.arrays s.out s t) s
 start_by zero zero value trail table s e d c =
     template (start_text value trail) table 0 _ _ s c (set (set (move_not e (move_not d (move_not e (jump refl (arrives, refl)))))))
 start_by zero (suc x) value trail table s e d c =
-    subst (λ y. Freely 6 6 [] (λ t. Leaves trail table y s.arrays s.out s t) s) d
+    subst (λ y. Freely 6 6 [] [] (λ t. Leaves trail table y s.arrays s.out s t) s) d
     (template (start_text value trail) table 0 _ _ s c (set (set (move_not e (move (λ h. omega (arith, h, d)) (move_not e (jump refl (arrives, refl))))))))
 start_by (suc v) zero value trail table s e d c =
     template (start_text value trail) table 0 _ _ s c (set (set (move (λ h. omega (arith, h, e)) (move_not d (move (λ h. omega (arith, h, e)) (jump refl (arrives, refl)))))))
@@ -35,9 +36,9 @@ unfolding PushWorkLaw
 push_work_law place table current s c =
     template (push_work place) table current _ _ s c
     (set (alloc (λ id new.
-    (set (amend_last s.arrays (0 ∷ 0 ∷ 0 ∷ []) refl refl new.not_zero refl
-    (set (amend_last s.arrays _ refl refl new.not_zero refl
-    (set (amend_last s.arrays _ refl refl new.not_zero refl
+    (set (amend_last s.arrays (0 ∷ 0 ∷ 0 ∷ []) refl refl (fresh new) refl
+    (set (amend_last s.arrays _ refl refl (fresh new) refl
+    (set (amend_last s.arrays _ refl refl (fresh new) refl
     (move new.not_zero (end ((id, new, arrives, refl), refl))))))))))))
 
 pub pop_work_law : PopWorkLaw freely

@@ -18,7 +18,7 @@ use Rattle.code_templates.proofs.Spent.{HasZero, Rises, OnNext, if_goes, some_go
 -- the length of the words that were loaded last, or this one where there were none
 abbrev pub last_length : ℕ → Loads → ℕ
 last_length first [] = first
-last_length first (load ∷ loads) = last_length (length load.0) loads
+last_length first (load ∷ loads) = last_length (length load.words) loads
 
 -- the next state has the same input, and array 0 holds what was loaded last
 abbrev Stays : Loads → State → State → Type 0
@@ -26,11 +26,11 @@ Stays k s t = (t.rest ≡ s.rest) × (array_at t.arrays 0 ≡ last_loaded (array
 
 loaded_append : (words : List ℕ) (l k : Loads) → last_loaded words (l ++ k) ≡ last_loaded (last_loaded words l) k
 loaded_append words [] k = refl
-loaded_append words (load ∷ l) k = loaded_append load.0 l k
+loaded_append words (load ∷ l) k = loaded_append load.words l k
 
 loaded_length : (words : List ℕ) (k : Loads) → length (last_loaded words k) ≡ last_length (length words) k
 loaded_length words [] = refl
-loaded_length words (load ∷ k) = loaded_length load.0 k
+loaded_length words (load ∷ k) = loaded_length load.words k
 
 abbrev IsBeside : Option Op → State → Type 0
 IsBeside op s = (a b c : ℕ) → op ≡ Some (Amend a b c) → reg s a ≢ 0
@@ -63,10 +63,10 @@ row_stays (Load b c) id s own beside new = by_zero (reg s b == 0)
   where
     by_zero : (z : Bool) →
         OnNext (if z then Goes (record (moved s) { finger = reg s c }) else with_some (map.get s.arrays (reg s b)) LoadInactive (λ words. Goes (record (with_array (moved s) 0 words) { finger = reg s c })))
-        (Stays (if z then [] else (array_at s.arrays (reg s b), reg s c) ∷ []) s)
+        (Stays (if z then [] else record { words = array_at s.arrays (reg s b); offset = reg s c } ∷ []) s)
     by_zero true = (refl, refl)
     by_zero false =
-        some_goes (map.get s.arrays (reg s b)) LoadInactive (λ words. Goes (record (with_array (moved s) 0 words) { finger = reg s c })) (Stays ((array_at s.arrays (reg s b), reg s c) ∷ []) s) (λ words e.
+        some_goes (map.get s.arrays (reg s b)) LoadInactive (λ words. Goes (record (with_array (moved s) 0 words) { finger = reg s c })) (Stays (record { words = array_at s.arrays (reg s b); offset = reg s c } ∷ []) s) (λ words e.
         (refl, ap (λ (o : Option (List ℕ)). unwrap_or o []) (get-insert_same s.arrays 0 words ∙ sym e)))
 row_stays (Abandon c) id s own beside new = absurd own
 row_stays (Input c) id s own beside new = absurd own

@@ -74,26 +74,29 @@ pub record IsHalted (s t : State) : Type 0 where
   pub out_is : t.out ≡ s.out
   pub rest_is : t.rest ≡ s.rest
 
--- how many words a template has, after how many cycles it is left, and what these load
+-- How many words a template has, after how many cycles it is left, which of the arrays that stood
+-- before it may amend, and what its cycles load.
 pub record Course : Type 0 where
   pub size : ℕ
   pub cycles : ℕ
+  pub amends : List ℕ
   pub loads : Loads
 
--- so many words, with one cycle each, and no load
-abbrev pub straight_on : ℕ → Course
-straight_on n = record { size = n; cycles = n; loads = [] }
+-- so many words, with one cycle each, these arrays amended, and no load
+abbrev pub straight_on : ℕ → List ℕ → Course
+straight_on n amends = record { size = n; cycles = n; amends = amends; loads = [] }
 
--- it stands within, and nothing was loaded
-abbrev pub Quietly : (place size : ℕ) (came : State) (loads : Loads) → State → Loads → Type 0
-Quietly place size came loads t l = StandsWithin place size came t × (l ≡ loads)
+-- it stands within, and these are the loads
+abbrev pub Quietly : (place size : ℕ) (but : List ℕ) (came : State) (loads : Loads) →
+    State → Loads → Type 0
+Quietly place size but came loads t l = StandsWithin place size but came t × (l ≡ loads)
 
 -- After n cycles from s on, which made these loads, the machine is on its course to Q: until the
 -- last cycle it stands within the template, and has loaded nothing; then there is Q, and the loads
 -- are those of the course.
 pub record IsOnCourse (course : Course) (Q : State → Type 0) (s : State) (n : ℕ) (loads : Loads)
     (t : State) : Type 0 where
-  pub before : n < course.cycles → Quietly s.finger course.size s [] t loads
+  pub before : n < course.cycles → Quietly s.finger course.size course.amends s [] t loads
   pub after : n ≡ course.cycles → Q t × (loads ≡ course.loads)
 
 -- At each of its cycles, under any limits and with any legal identifiers, the machine is on its
@@ -102,7 +105,7 @@ abbrev pub InRuns : Course → (State → Type 0) → State → Type 0
 InRuns course Q s = (L : Limits) (ids : List ℕ) (n : ℕ) → n ≤ course.cycles → AreLegal L n ids s →
     let loads = loads_by first_of ids_left L n ids s in
     OnStanding (run L n ids s) (IsOnCourse course Q s n loads)
-    (λ t fault. IsLimit fault × Quietly s.finger course.size s [] t loads)
+    (λ t fault. IsLimit fault × Quietly s.finger course.size course.amends s [] t loads)
 
 -- A way to read a law: what it is to come to a template, with values in its first holes and as
 -- operators, and what it is that a course leads from there to Q.
@@ -122,7 +125,7 @@ MakeCellLaw way = (a b i j d table frame : ℕ) (slots : List ℕ) (s : State) �
     a < length slots → b < length slots → d < length slots → i < 4 → j < 4 →
     let x = slice_index slots a in
     let y = slice_index slots b in
-    way.leads (straight_on 12) (λ t. (new : ℕ) × IsNew s.arrays new ×
+    way.leads (straight_on 12 (frame ∷ [])) (λ t. (new : ℕ) × IsNew s.arrays new ×
     Leaves (s.finger + 12) table frame
     (map.insert (map.insert s.arrays new (slice_set (slice_set empty_cell i x) j y)) frame
     (slice_set slots d new)) s.out s t) s
@@ -132,7 +135,7 @@ unfoldable pub SetSlotLaw : Way → Type 0
 SetSlotLaw way = (k d table frame : ℕ) (slots : List ℕ) (s : State) →
     way.comes (k ∷ d ∷ []) (set_slot k d) table frame s →
     HasWords s.arrays frame slots → d < length slots →
-    way.leads (straight_on 3) (Leaves (s.finger + 3) table frame
+    way.leads (straight_on 3 (frame ∷ [])) (Leaves (s.finger + 3) table frame
     (map.insert s.arrays frame (slice_set slots d k)) s.out s) s
 
 -- Slot d of the frame becomes slot a where slot c isn't 0, and else slot b.
@@ -142,7 +145,7 @@ ChooseSlotLaw way = (c a b d table frame : ℕ) (slots : List ℕ) (s : State) �
     HasWords s.arrays frame slots →
     c < length slots → a < length slots → b < length slots → d < length slots →
     let word = chosen_word (slice_index slots c) (slice_index slots a) (slice_index slots b) in
-    way.leads (straight_on 9) (Leaves (s.finger + 9) table frame
+    way.leads (straight_on 9 (frame ∷ [])) (Leaves (s.finger + 9) table frame
     (map.insert s.arrays frame (slice_set slots d word)) s.out s) s
 
 -- Slot d of the frame becomes word f of the array in slot x.
@@ -151,7 +154,7 @@ ReadPartLaw way = (x f d table frame : ℕ) (slots words : List ℕ) (s : State)
     way.comes (x ∷ f ∷ d ∷ []) (read_part x f d) table frame s →
     HasWords s.arrays frame slots → map.get s.arrays (slice_index slots x) ≡ Some words →
     x < length slots → d < length slots → f < length words →
-    way.leads (straight_on 6) (Leaves (s.finger + 6) table frame
+    way.leads (straight_on 6 (frame ∷ [])) (Leaves (s.finger + 6) table frame
     (map.insert s.arrays frame (slice_set slots d (slice_index words f))) s.out s) s
 
 -- Go to one place where slot x is 0, and else to the other; no array changes, and register 3 is as
@@ -160,7 +163,7 @@ unfoldable pub BranchOnSlotLaw : Way → Type 0
 BranchOnSlotLaw way = (x none some table frame : ℕ) (slots : List ℕ) (s : State) →
     way.comes (x ∷ none ∷ some ∷ []) (branch_on_slot x none some) table frame s →
     map.get s.arrays frame ≡ Some slots → x < length slots →
-    way.leads (straight_on 6) (λ t.
+    way.leads (straight_on 6 []) (λ t.
     Leaves (chosen_word (slice_index slots x) some none) table frame s.arrays s.out s t
     × (reg t 3 ≡ reg s 3)) s
 
@@ -177,7 +180,13 @@ CallBlockLaw way =
     let north = slice_index slots n in
     let west = slice_index slots w in
     let words = caller ∷ own ∷ back ∷ north ∷ west ∷ replicate (size - 5) 0 in
-    way.leads (record { size = 21; cycles = 21; loads = (block, 0) ∷ [] })
+    way.leads
+    (record {
+      size = 21;
+      cycles = 21;
+      amends = [];
+      loads = record { words = block; offset = 0 } ∷ [];
+    })
     (λ t. (new : ℕ) × IsNew s.arrays new ×
     Leaves 0 table new (map.insert (map.insert s.arrays new words) 0 block) s.out s t) s
 
@@ -186,7 +195,7 @@ unfoldable pub TakeOutcomeLaw : Way → Type 0
 TakeOutcomeLaw way = (v x table frame : ℕ) (slots : List ℕ) (s : State) →
     way.comes (v ∷ x ∷ []) (take_outcome v x) table frame s →
     HasWords s.arrays frame slots → v < length slots → x < length slots →
-    way.leads (straight_on 4) (Leaves (s.finger + 4) table frame
+    way.leads (straight_on 4 (frame ∷ [])) (Leaves (s.finger + 4) table frame
     (map.insert s.arrays frame (slice_set (slice_set slots v (reg s 3)) x (reg s 4))) s.out s) s
 
 -- Load the block that the frame says, at the offset that it says, with the outcome in registers 3
@@ -198,7 +207,14 @@ ReturnOutcomeLaw way = (table frame : ℕ) (slots blocks block : List ℕ) (s : 
     map.get s.arrays table ≡ Some blocks → slice_index slots 1 < length blocks →
     HasWords s.arrays (slice_index blocks (slice_index slots 1)) block →
     let back = slice_index slots 2 in
-    way.leads (record { size = 11; cycles = 11; loads = (block, back) ∷ [] }) (λ t.
+    way.leads
+    (record {
+      size = 11;
+      cycles = 11;
+      amends = [];
+      loads = record { words = block; offset = back } ∷ [];
+    })
+    (λ t.
     Leaves back table (slice_index slots 0) (map.insert s.arrays 0 block) s.out s t
     × (reg t 3 ≡ slice_index slots 5) × (reg t 4 ≡ slice_index slots 6)) s
 
@@ -207,21 +223,21 @@ ReturnOutcomeLaw way = (table frame : ℕ) (slots blocks block : List ℕ) (s : 
 unfoldable pub StartTextLaw : Way → Type 0
 StartTextLaw way = (value trail table : ℕ) (s : State) →
     way.comes (value ∷ trail ∷ []) (start_text value trail) table 0 s →
-    way.leads (straight_on 6) (Leaves (chosen_word (reg s 3) value trail) table
+    way.leads (straight_on 6 []) (Leaves (chosen_word (reg s 3) value trail) table
     (chosen_word (reg s 3) (reg s 3) (reg s 4)) s.arrays s.out s) s
 
 -- Write the byte c; register 3 is as it was.
 unfoldable pub WriteByteLaw : Way → Type 0
 WriteByteLaw way = (c table current : ℕ) (s : State) →
     way.comes (c ∷ []) (write_byte c) table current s → c < 256 →
-    way.leads (straight_on 2) (λ t.
+    way.leads (straight_on 2 []) (λ t.
     Leaves (s.finger + 2) table current s.arrays (s.out ++ c ∷ []) s t × (reg t 3 ≡ reg s 3)) s
 
 -- Put a place and the record on the stack, which is a list of arrays from that in register 3 on.
 unfoldable pub PushWorkLaw : Way → Type 0
 PushWorkLaw way = (place table current : ℕ) (s : State) →
     way.comes (place ∷ []) (push_work place) table current s →
-    way.leads (straight_on 9) (λ t. (new : ℕ) × IsNew s.arrays new ×
+    way.leads (straight_on 9 []) (λ t. (new : ℕ) × IsNew s.arrays new ×
     Leaves (s.finger + 9) table current
     (map.insert s.arrays new (place ∷ current ∷ reg s 3 ∷ [])) s.out s t × (reg t 3 ≡ new)) s
 
@@ -230,7 +246,7 @@ unfoldable pub PopWorkLaw : Way → Type 0
 PopWorkLaw way = (place table current next rest : ℕ) (s : State) →
     way.comes [] pop_work table current s →
     map.get s.arrays (reg s 3) ≡ Some (place ∷ next ∷ rest ∷ []) →
-    way.leads (straight_on 6) (λ t.
+    way.leads (straight_on 6 []) (λ t.
     Leaves place table next s.arrays s.out s t × (reg t 3 ≡ rest)) s
 
 -- The record becomes its own word f: go to a place; register 3 is as it was.
@@ -238,7 +254,7 @@ unfoldable pub GoToPartLaw : Way → Type 0
 GoToPartLaw way = (f place table current : ℕ) (words : List ℕ) (s : State) →
     way.comes (f ∷ place ∷ []) (go_to_part f place) table current s →
     map.get s.arrays current ≡ Some words → f < length words →
-    way.leads (straight_on 4) (λ t.
+    way.leads (straight_on 4 []) (λ t.
     Leaves place table (slice_index words f) s.arrays s.out s t × (reg t 3 ≡ reg s 3)) s
 
 -- Go to the place that stands in array 0 at j and as many words further as the record's first word
@@ -248,20 +264,20 @@ GoToTextLaw way = (j table current : ℕ) (words code : List ℕ) (s : State) �
     way.comes (j ∷ []) (go_to_text j) table current s →
     map.get s.arrays current ≡ Some words → 1 ≤ length words → map.get s.arrays 0 ≡ Some code →
     slice_index words 0 + j < length code → length code ≤ 2 ^ 32 →
-    way.leads (straight_on 5) (λ t.
+    way.leads (straight_on 5 []) (λ t.
     Leaves (slice_index code (slice_index words 0 + j)) table current s.arrays s.out s t
     × (reg t 3 ≡ reg s 3)) s
 
 -- Halt.
 unfoldable pub HaltLaw : Way → Type 0
 HaltLaw way = (table current : ℕ) (s : State) →
-    way.comes [] halt table current s → way.leads (straight_on 1) (IsHalted s) s
+    way.comes [] halt table current s → way.leads (straight_on 1 []) (IsHalted s) s
 
 -- The table becomes a new array of words 0.
 unfoldable pub MakeTableLaw : Way → Type 0
 MakeTableLaw way = (count table current : ℕ) (s : State) →
     way.comes (count ∷ []) (make_table count) table current s →
-    way.leads (straight_on 2) (λ t. (new : ℕ) × IsNew s.arrays new ×
+    way.leads (straight_on 2 []) (λ t. (new : ℕ) × IsNew s.arrays new ×
     Leaves (s.finger + 2) new current (map.insert s.arrays new (replicate count 0)) s.out s t) s
 
 -- Word i of the table becomes a new array, a copy of so many words of array 0 from a place on.
@@ -274,7 +290,7 @@ CopyBlockLaw way = (size i place table current : ℕ) (blocks code : List ℕ) (
     HasWords s.arrays table blocks → i < length blocks →
     map.get s.arrays 0 ≡ Some code → 1 ≤ size → place + size ≤ length code →
     length code ≤ 2 ^ 32 →
-    way.leads (record { size = 14; cycles = 5 + 9 * size; loads = [] })
+    way.leads (record { size = 14; cycles = 5 + 9 * size; amends = table ∷ []; loads = [] })
     (λ t. (new : ℕ) × IsNew s.arrays new ×
     Leaves (s.finger + 14) table current
     (map.insert (map.insert s.arrays new (piece place size code)) table (slice_set blocks i new))

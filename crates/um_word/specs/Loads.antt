@@ -7,12 +7,17 @@ use Rattle.um_word.specs.State.{State, array_at, reg}
 use Rattle.um_word.specs.Table.{Fault, ArraysFull, WordsFull, Next, Goes, Stops, cycle, op_under}
 use Rattle.um_word.specs.Run.{Standing, Stands, Failed}
 
--- the words loaded and the offset, for each load of an array other than 0
+-- what was loaded, and the offset where the finger went
+pub record Loaded : Type 0 where
+  pub words : List ℕ
+  pub offset : ℕ
+
+-- one for each load of an array other than 0, in order
 abbrev pub Loads : Type 0
-Loads = List (List ℕ × ℕ)
+Loads = List Loaded
 
 abbrev pub load_by : Option Op → State → Loads
-load_by (Some (Load b c)) s = if reg s b == 0 then [] else (array_at s.arrays (reg s b), reg s c) ∷ []
+load_by (Some (Load b c)) s = if reg s b == 0 then [] else record { words = array_at s.arrays (reg s b); offset = reg s c } ∷ []
 load_by _ s = []
 
 -- what the next cycle loads, if it succeeds
@@ -31,12 +36,12 @@ loads_by offer left L (suc n) i s =
 
 -- what was loaded, and whether it was entered at offset 0
 abbrev pub seen : Loads → List (List ℕ × Bool)
-seen loads = map (λ load. (load.0, load.1 == 0)) loads
+seen loads = map (λ load. (load.words, load.offset == 0)) loads
 
 -- the loads with offset 0
 abbrev pub entries : Loads → ℕ
 entries [] = 0
-entries (load ∷ loads) = (if load.1 == 0 then 1 else 0) + entries loads
+entries (load ∷ loads) = (if load.offset == 0 then 1 else 0) + entries loads
 
 -- the state in which a run stands
 abbrev pub state_in : {I : Type 0} → Standing I → State

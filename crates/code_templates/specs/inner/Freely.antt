@@ -21,13 +21,13 @@ pub record ArrivesAt (ops : List Op) (table current : ℕ) (s : State) : Type 0 
   pub current_is : reg s 2 ≡ current
 
 -- it is led to Q without limits, whatever new identifiers are handed out
-abbrev pub Freely : (size cycles : ℕ) → Loads → (State → Type 0) → State → Type 0
-Freely size cycles loads Q s =
-    (l : Loads) → Leads (Quietly s.finger size s l) cycles (λ t k. Q t × (k ≡ l ++ loads)) s l
+abbrev pub Freely : (size cycles : ℕ) (but : List ℕ) → Loads → (State → Type 0) → State → Type 0
+Freely size cycles but loads Q s =
+    (l : Loads) → Leads (Quietly s.finger size but s l) cycles (λ t k. Q t × (k ≡ l ++ loads)) s l
 
 -- the way of operators: so the proofs of crates above join laws before they look at limits
 abbrev pub freely : Way
 freely = record {
   comes = λ holes. ArrivesAt;
-  leads = λ course. Freely course.size course.cycles course.loads;
+  leads = λ course. Freely course.size course.cycles course.amends course.loads;
 }
