@@ -5,7 +5,7 @@ use Rattle.std.proofs.lemmas.Bool.{ne_eqb}
 use Rattle.std.proofs.lemmas.List.{append_assoc, append-nil, map-append, length-replicate}
 use Rattle.um_word.specs.declared.op.Op.{Op}
 use Rattle.um_word.specs.State.{State, array_at}
-use Rattle.um_word.specs.Loads.{Loads, seen}
+use Rattle.um_word.specs.Loads.{Loads, seen, Loaded}
 use Rattle.um_word.specs.Leads.{Leads}
 use Rattle.um_word.proofs.Leading.{weaken, weaken_along, no_step}
 use Rattle.codex_values.specs.Value.{Value}
@@ -15,7 +15,7 @@ use Rattle.code_templates.specs.Lines.{StandsAt}
 use Rattle.code_templates.specs.inner.Spent.{spent}
 use Rattle.code_templates.specs.Templates.{call_block, return_outcome}
 use Rattle.code_templates.proofs.Straight.{stands_front, stands_back}
-use Rattle.lower_emit.specs.inner.Stretches.{Stretch}
+use Rattle.lower_emit.specs.inner.Stretches.{Stretch, entry_of, load_at}
 use Rattle.lower_emit.specs.Layouts.{zero_slot, Layout, stuck_slot, temporary, wire_slot, input_slot, SideSlot}
 use Rattle.lower_emit.specs.Stands.{TextTrail, Ending}
 use Rattle.lower_emit.specs.Entered.{EntryCarries, HasBlocks, IsApart, Return, Entered}
@@ -50,8 +50,8 @@ after_zero n = ne_eqb (n + 21) 0 (λ e. omega (arith, e))
 whole_trip : {A : Type 0} (l : List A) (x : A) (xs : List A) (y : A) (ys : List A) → (((l ++ x ∷ []) ++ xs) ++ y ∷ []) ++ ys ≡ l ++ (x ∷ (xs ++ y ∷ ys))
 whole_trip l x xs y ys = append_assoc ((l ++ x ∷ []) ++ xs) (y ∷ []) ys ∙ append_assoc (l ++ x ∷ []) xs (y ∷ ys) ∙ append_assoc l (x ∷ []) (xs ++ y ∷ ys)
 
-seen_more : (l : Loads) (x : List ℕ × ℕ) → seen (l ++ x ∷ []) ≡ seen l ++ (x.0, x.1 == 0) ∷ []
-seen_more l x = map-append (λ (x : List ℕ × ℕ). (x.0, x.1 == 0)) l (x ∷ [])
+seen_more : (l : Loads) (x : Loaded) → seen (l ++ x ∷ []) ≡ seen l ++ (x.words, x.offset == 0) ∷ []
+seen_more l x = map-append (λ (x : Loaded). (x.words, x.offset == 0)) l (x ∷ [])
 
 module _ (codes : ℕ → List ℕ) (c : Prices) (plans : Plans) (modules count : ℕ) (few : modules ≤ count) (known : Known) (trips : Trips)
     (told : (m : ℕ) (a : Inputs) → m < modules → IsKnownOf codes c plans count known trips m a) (m width : ℕ) (y : Layout) (room : temporary y 4 < y.size) (low : 8 * width + c.frame ≤ c.price) where
@@ -131,12 +131,12 @@ module _ (codes : ℕ → List ℕ) (c : Prices) (plans : Plans) (modules count 
       -- and the callee is called, and goes on to where it is said to go
       calls : (came : Option Ending) (visits : List Visit) (law : CallLaw codes c plans count callee asked came visits) (table : ℕ) (ids : List ℕ) (frame : ℕ) (s : State) (l : Loads) → HasBlocks codes table ids s.arrays → IsApart table ids frame → length ids ≡ count →
           (back_inside : m < count) (R : State → Loads → Type 0) (n : ℕ) (t : State) (j : Loads) (i : Now_ table frame s l body wires stuck t j) →
-          ((u : State) (q : Loads) (called : Called codes table ids callee size (record { caller = frame; block = m; offset = body + 21 }) asked t u) → q ≡ j ++ (codes callee, 0) ∷ [] → spent u ≤ spent t + (21 + c.frame) →
+          ((u : State) (q : Loads) (called : Called codes table ids callee size (record { caller = frame; block = m; offset = body + 21 }) asked t u) → q ≡ j ++ entry_of (codes callee) ∷ [] → spent u ≤ spent t + (21 + c.frame) →
           (v : State) (k : Loads) → Ran codes c table (record { caller = frame; block = m; offset = body + 21 }) came visits called.frame u q v k → Leads (Along c s l) n R v k) →
           Leads (Along c s l) (21 + (law.0 + n)) R t j
       calls came visits law table ids frame s l blocks far count_is back_inside R n t j i go =
           let back : Return = record { caller = frame; block = m; offset = body + 21 } in
-          follow (Along c s l) 21 (law.0 + n) (λ u q. (Called codes table ids callee size back asked t u × (q ≡ j ++ (codes callee, 0) ∷ [])) × (spent u ≤ spent t + (21 + c.frame))) R t j
+          follow (Along c s l) 21 (law.0 + n) (λ u q. (Called codes table ids callee size back asked t u × (q ≡ j ++ entry_of (codes callee) ∷ [])) × (spent u ≤ spent t + (21 + c.frame))) R t j
           (call_step codes c m width y table frame s l ids blocks far body wires stuck t j i north west callee size is_north is_west
           (stands_front (codes m) body (call_block (input_slot north) (input_slot west) callee size m (body + 21)) (taken_code y side number text) body_stands) can.frame room (omega (arith, count_is, inside, few)) framed (omega (arith, low, high)))
           (λ u q h.
@@ -165,7 +165,7 @@ module _ (codes : ℕ → List ℕ) (c : Prices) (plans : Plans) (modules count 
             calls None h.0 h.2 table ids frame s l blocks far count_is here R 0 u q g.1
             (λ v k called loads cost x k2 ran.
             no_step (Along c s l) R x k2
-            (let to : seen k ≡ seen j ++ (codes callee, true) ∷ [] = ap seen loads ∙ seen_more q (codes callee, 0) ∙ ap (λ z. seen z ++ (codes callee, true) ∷ []) g.0 in
+            (let to : seen k ≡ seen j ++ (codes callee, true) ∷ [] = ap seen loads ∙ seen_more q (entry_of (codes callee)) ∙ ap (λ z. seen z ++ (codes callee, true) ∷ []) g.0 in
             let all : seen k2 ≡ seen j ++ map (load_of codes) (Calls callee ∷ h.0) = ran ∙ ap (λ z. z ++ map (load_of codes) h.0) to ∙ append_assoc (seen j) ((codes callee, true) ∷ []) (map (load_of codes) h.0) in
             let same : Calls callee ∷ h.0 ≡ trips callee asked ++ [] = sym h.1 ∙ sym (append-nil (trips callee asked)) in
             (all ∙ ap (λ z. seen j ++ map (load_of codes) z) same, tt)))),
@@ -184,7 +184,7 @@ module _ (codes : ℕ → List ℕ) (c : Prices) (plans : Plans) (modules count 
             let now = back_step codes c m width y table frame s l ids blocks far body wires stuck u q g.1 callee size asked v p called loads cost came x z ran.returned ran.bound room in
             let Q : State → Type 0 = At codes c m width y table frame s l (body + 21 + 28) w2 k2 x z in
             let e : body + 21 + 28 ≡ body + 49 = omega arith in
-            let to : seen p ≡ seen j ++ (codes callee, true) ∷ [] = ap seen loads ∙ seen_more q (codes callee, 0) ∙ ap (λ z. seen z ++ (codes callee, true) ∷ []) g.0 in
+            let to : seen p ≡ seen j ++ (codes callee, true) ∷ [] = ap seen loads ∙ seen_more q (entry_of (codes callee)) ∙ ap (λ z. seen z ++ (codes callee, true) ∷ []) g.0 in
             let back : seen z ≡ ((seen j ++ (codes callee, true) ∷ []) ++ map (load_of codes) h.0) ++ (codes m, false) ∷ [] =
             ran.loads ∙ ap (λ b. (seen p ++ map (load_of codes) h.0) ++ (codes m, b) ∷ []) (after_zero body) ∙ ap (λ o. (o ++ map (load_of codes) h.0) ++ (codes m, false) ∷ []) to in
             let whole : seen z ++ map (load_of codes) visits ≡ seen j ++ map (load_of codes) (trips callee asked ++ Returns m ∷ visits) =
@@ -329,6 +329,8 @@ module _ (codes : ℕ → List ℕ) (c : Prices) (plans : Plans) (modules count 
             current_is = h.current_is;
             code_is = h.code_is;
             came_with = h.code_is;
+            framed = refl;
+            still = λ j words out e. e;
             frame_is = h.frame_is;
             out_is = refl;
             rest_is = refl;
@@ -394,11 +396,11 @@ module _ (codes : ℕ → List ℕ) (c : Prices) (plans : Plans) (modules count 
       (end_law (range codes c m width y table frame s l u q) table frame (codes m) y u w k size (plans m).exits (plans m).none (plans m).two y.boxes boxes_end u now.at end_stands (omega arith) (omega arith) is.good.are_exits (omega arith))))
       (λ x z g.
       weaken (Along c s l) 11
-      (λ v j. Returned codes table back came frame s v × (j ≡ z ++ (codes back.block, back.offset) ∷ []) × (spent v + c.frame + due c.price l ≤ spent s + due c.price j + c.price))
+      (λ v j. Returned codes table back came frame s v × (j ≡ z ++ load_at (codes back.block) back.offset ∷ []) × (spent v + c.frame + due c.price l ≤ spent s + due c.price j + c.price))
       (Backed codes c table back came visits frame s l)
       (λ v j r. record {
         returned = r.0;
-        loads = ap seen r.1 ∙ seen_more z (codes back.block, back.offset) ∙ ap (λ o. o ++ (codes back.block, back.offset == 0) ∷ []) (ap seen g.0 ∙ loads);
+        loads = ap seen r.1 ∙ seen_more z (load_at (codes back.block) back.offset) ∙ ap (λ o. o ++ (codes back.block, back.offset == 0) ∷ []) (ap seen g.0 ∙ loads);
         bound = r.2;
       }) x z
       (return_step codes c m width y table frame s l ids h.blocks h.apart back boxes_end w w k k came u q now x z L g.1 g.2 return_stands size (omega (arith, count_is, to)) (omega (arith, priced))

@@ -1,5 +1,5 @@
 -- A block by itself: its own stretches, its calls and their answers, and its return.
-use Rattle.std.proofs.Common.{◌≡◌, ℕ, suc, ◌+◌, ◌<◌, ◌≤◌, inl, inr, List, [], ◌∷◌, ◌++◌, length, Option, Some, None, refl, sym, ap, ◌∙◌, subst, arith}
+use Rattle.std.proofs.Common.{◌≡◌, ℕ, zero, suc, ◌+◌, ◌<◌, ◌≤◌, inl, inr, List, [], ◌∷◌, ◌++◌, length, Option, Some, None, refl, sym, ap, ◌∙◌, subst, arith}
 use Rattle.std.specs.Prelude.{slice_index, unwrap_or}
 use Rattle.std.specs.List.{Contains}
 use Rattle.std.specs.FinMap as map
@@ -15,7 +15,7 @@ use Rattle.code_templates.specs.Templates.{call_block, return_outcome}
 use Rattle.code_templates.specs.Laws.{Quietly, HasWords, ReturnOutcomeLaw}
 use Rattle.code_templates.proofs.BlockLaws.{return_outcome_law}
 use Rattle.code_templates.proofs.Straight.{apart}
-use Rattle.lower_emit.specs.inner.Stretches.{Range, Stretch, KeepsArrays}
+use Rattle.lower_emit.specs.inner.Stretches.{Range, Stretch, KeepsArrays, entry_of}
 use Rattle.lower_emit.specs.Stands.{TextTrail, Carries, Marked, Ending}
 use Rattle.lower_emit.specs.Layouts.{Layout, temporary, input_slot}
 use Rattle.lower_emit.specs.inner.Frames.{AtPlace, IsWireSlot}
@@ -36,7 +36,7 @@ some_none words e = cc
 
 module _ (w : Surroundings) (frames : List ℕ) (m width : ℕ) (y : Layout) (room : temporary y 4 < y.size) (back : Return) (frame : ℕ) (far : IsApart w.table w.ids frame) (alone : Contains (back.caller ∷ frames) frame → ⊥) where
   abbrev pub range : State → Range
-  range u = record { place = 0; size = width; came = u; loads = [] }
+  range u = record { place = 0; size = width; frame = frame; came = u; loads = [] }
 
   -- in the block, since state u
   abbrev pub Here : ℕ → (ℕ → Option Value) → (ℕ → Option TextTrail) → State → State → Type 0
@@ -78,6 +78,8 @@ module _ (w : Surroundings) (frames : List ℕ) (m width : ℕ) (y : Layout) (ro
               current_is = a.here.current_is;
               code_is = a.here.code_is;
               came_with = a.here.code_is;
+              framed = refl;
+              still = λ j words out e. e;
               frame_is = a.here.frame_is;
               out_is = refl;
               rest_is = refl;
@@ -98,16 +100,29 @@ module _ (w : Surroundings) (frames : List ℕ) (m width : ℕ) (y : Layout) (ro
           out_is = a.here.out_is ∙ i.out_is;
         }
 
-    -- cycles that stand within the block are moments of its own
-    quiet_step : (n from size : ℕ) (Q : State → Loads → Type 0) (u : State) → map.get u.arrays 0 ≡ Some (w.codes m) → u.out ≡ s.out → Leads (Quietly from size u []) n Q u [] → Leads (Moment s) n Q u []
-    quiet_step n from size Q u code out h =
-        weaken_along (Quietly from size u []) (Moment s) n Q (λ x k q. record { own = q.0.own; code_is = q.0.code ∙ code; out_is = q.0.out ∙ out }) u [] h
+    -- cycles that stand within the block, and amend no array that stood but the frame, are moments of its own
+    quiet_step : (n from size : ℕ) (but : List ℕ) (Q : State → Loads → Type 0) (u : State) → ((k : ℕ) → Contains but k → k ≡ frame) → KeepsArrays frame s.arrays u.arrays → map.get u.arrays 0 ≡ Some (w.codes m) → u.out ≡ s.out →
+        Leads (Quietly from size but u []) n Q u [] → Leads (Moment s) n Q u []
+    quiet_step n from size but Q u only keeps code out h =
+        weaken_along (Quietly from size but u []) (Moment s) n Q (λ x k q. record {
+          own = q.0.own;
+          code_is = q.0.code ∙ code;
+          out_is = q.0.out ∙ out;
+          stay = kept_stay w frames frame far alone_frames s.arrays x.arrays i.was i.was_there i.was_long (λ j ws z ne e. q.0.stays j ws (λ c. ne (only j c)) (keeps j ws z ne e));
+        }) u [] h
+
+    only_frame : (k : ℕ) → Contains (frame ∷ []) k → k ≡ frame
+    only_frame k (zero, lt, is) = sym is
+    only_frame k (suc j, lt, is) = absurd (omega (arith, lt))
+
+    no_other : (k : ℕ) → Contains [] k → k ≡ frame
+    no_other k c = absurd (omega (arith, c.1))
 
     -- a stretch of the block's own
     pub own_stretch : (n : ℕ) (Q : State → Type 0) → Stretch (range t) n Q t → Leads (Moment s) n (λ u k. (k ≡ []) × Q u) t []
     own_stretch n Q h =
         weaken (Moment s) n (λ u k. Q u × (k ≡ [])) (λ u k. (k ≡ []) × Q u) (λ u k q. (q.1, q.0)) t []
-        (quiet_step n 0 width (λ u k. Q u × (k ≡ [])) t i.at.here.code_is i.out_is h)
+        (quiet_step n 0 width (frame ∷ []) (λ u k. Q u × (k ≡ [])) t only_frame i.keeps i.at.here.code_is i.out_is h)
 
     -- and one to a place
     pub own_step : (n place2 : ℕ) (w2 : ℕ → Option Value) (k2 : ℕ → Option TextTrail) → Stretch (range t) n (Here place2 w2 k2 t) t → Leads (Moment s) n (λ u k. (k ≡ []) × Now place2 w2 k2 s u) t []
@@ -123,8 +138,8 @@ module _ (w : Surroundings) (frames : List ℕ) (m width : ℕ) (y : Layout) (ro
         Leads (Moment s) 21 (λ u k. Called w.codes w.table w.ids callee size (back_to m frame (place + 21)) (record { north = exit_value wires north; west = exit_value wires west }) t u) t []
     call_step north west callee size is_north is_west stand five inside =
         let C : State → Type 0 = λ u. Called w.codes w.table w.ids callee size (back_to m frame (place + 21)) (record { north = exit_value wires north; west = exit_value wires west }) t u in
-        weaken (Moment s) 21 (λ u k. C u × (k ≡ [] ++ (w.codes callee, 0) ∷ [])) (λ u k. C u) (λ u k q. q.0) t []
-        (quiet_step 21 t.finger 21 (λ u k. C u × (k ≡ [] ++ (w.codes callee, 0) ∷ [])) t i.at.here.code_is i.out_is
+        weaken (Moment s) 21 (λ u k. C u × (k ≡ [] ++ entry_of (w.codes callee) ∷ [])) (λ u k. C u) (λ u k q. q.0) t []
+        (quiet_step 21 t.finger 21 [] (λ u k. C u × (k ≡ [] ++ entry_of (w.codes callee) ∷ [])) t no_other i.keeps i.at.here.code_is i.out_is
         (call_law w.codes w.table w.ids (range t) frame m y t wires stuck place t i.at north west callee size is_north is_west stand five room inside i.blocks []))
 
     module _ (callee size : ℕ) (inputs : Inputs) (u : State) (called : Called w.codes w.table w.ids callee size (back_to m frame (place + 21)) inputs t u) where
@@ -159,6 +174,8 @@ module _ (w : Surroundings) (frames : List ℕ) (m width : ℕ) (y : Layout) (ro
                 current_is = ans.current_is;
                 code_is = ans.code_is;
                 came_with = ans.code_is;
+                framed = refl;
+                still = λ j words out e. e;
                 frame_is = record { not_zero = here.not_zero; there = there };
                 out_is = refl;
                 rest_is = refl;
@@ -224,6 +241,6 @@ module _ (w : Surroundings) (frames : List ℕ) (m width : ℕ) (y : Layout) (ro
           mark_is = mark;
           out_is = out;
         }) u []
-        (quiet_step 11 u.finger 11 _ u a.here.code_is now.out_is
+        (quiet_step 11 u.finger 11 [] _ u no_other now.keeps a.here.code_is now.out_is
         (return_outcome_law w.table frame slots w.ids (w.codes back.block) u (comes (range t) w.table frame (w.codes m) place2 slots u return_outcome a.here stand) there (omega (arith, n, room)) now.blocks.there
         (subst (λ x. x < length w.ids) (sym c1) inside) (subst (λ x. HasWords u.arrays (slice_index w.ids x) (w.codes back.block)) (sym c1) block) []))

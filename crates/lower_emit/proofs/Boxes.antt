@@ -8,7 +8,7 @@ use Rattle.um_word.specs.State.{State, Arrays}
 use Rattle.um_word.proofs.Arrays.{get-insert_same, get-insert_other}
 use Rattle.codex_values.specs.Value.{Value}
 use Rattle.two_d.specs.Trees.{Tree}
-use Rattle.code_templates.specs.Lines.{StandsAt}
+use Rattle.code_templates.specs.Lines.{StandsAt, StandStill}
 use Rattle.code_templates.specs.Templates.{branch_on_slot}
 use Rattle.code_templates.specs.inner.Spent.{held}
 use Rattle.code_templates.proofs.Holding.{held_set}
@@ -24,7 +24,7 @@ use Rattle.lower_emit.specs.Expressions.{past, expression_slot, code_of}
 use Rattle.lower_emit.specs.Entered.{EntryCarries}
 use Rattle.lower_emit.specs.inner.Frames.{FrameHolds, AtPlace, carrying, IsWireSlot, carry_all, guard_cycles, sending, wires_sent, AreWires, Carried, AreSlotsApart, CanSend}
 use Rattle.lower_emit.specs.Boxes.{move_slot, out_code, guards_code, Sent, sent_code, send_code}
-use Rattle.lower_emit.proofs.Stretching.{stays, chain, becomes, template_stretch, comes}
+use Rattle.lower_emit.proofs.Stretching.{stays, chain, becomes, template_stretch, comes, still_on, quiet_stretch}
 use Rattle.lower_emit.proofs.Growth.{cell_stays, grows, stands_not_zero}
 use Rattle.lower_emit.proofs.Builds.{all, slot_low, past_ge}
 
@@ -123,6 +123,8 @@ module _ (r : Range) (table frame : ℕ) (code : List ℕ) (y : Layout) (stuck :
           current_is = h.0.current_is;
           code_is = ap (λ m. map.get m 0) h.0.arrays_are ∙ a.here.code_is;
           came_with = a.here.came_with;
+          framed = a.here.framed;
+          still = subst (λ m. StandStill (frame ∷ []) r.came.arrays m) (sym h.0.arrays_are) a.here.still;
           frame_is = subst (λ m. HasWords m frame a.slots) (sym h.0.arrays_are) a.here.frame_is;
           out_is = h.0.out_is ∙ a.here.out_is;
           rest_is = h.0.rest_is ∙ a.here.rest_is;
@@ -137,7 +139,7 @@ module _ (r : Range) (table frame : ℕ) (code : List ℕ) (y : Layout) (stuck :
             omega (arith, same, from, now, x, on);
         home = a.home;
       })
-      (template_stretch r table frame code 6 6 _ place a.slots t a.here low high
+      (quiet_stretch r table frame code 6 6 _ place a.slots t a.here low high
       (branch_on_slot_law (wire_slot k) to (place + 6) table frame a.slots t (comes r table frame code place a.slots t _ a.here stand) a.here.frame_is.there (let n = a.holds.long in omega (arith, n, inside))))
 
   guard_passes : (k place to : ℕ) (wires : ℕ → Option Value) (v : Value) (t : State) → There place wires t → StandsAt code place (branch_on_slot (wire_slot k) to (place + 6)) →
@@ -181,6 +183,8 @@ module _ (r : Range) (table frame : ℕ) (code : List ℕ) (y : Layout) (stuck :
           current_is = h.current_is;
           code_is = other 0 (λ e. f.not_zero (sym e)) ∙ a.here.code_is;
           came_with = a.here.came_with;
+          framed = a.here.framed;
+          still = still_on frame r.came.arrays t.arrays u.arrays a.here.still keeps (other 0 (λ e. f.not_zero (sym e)));
           frame_is = record { not_zero = f.not_zero; there = ap (λ m. map.get m frame) is ∙ get-insert_same t.arrays frame (slice_set a.slots d (slice_index a.slots x)) };
           out_is = h.out_is ∙ a.here.out_is;
           rest_is = h.rest_is ∙ a.here.rest_is;

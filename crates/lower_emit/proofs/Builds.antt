@@ -23,7 +23,7 @@ use Rattle.two_d.specs.Good.{NamesN, NamesW}
 use Rattle.lower_emit.specs.inner.Building.{slot_value, Grown, Built, BuildLaw}
 use Rattle.lower_emit.specs.Expressions.{past, expression_slot, code_of}
 use Rattle.lower_emit.specs.Layouts.{zero_slot}
-use Rattle.lower_emit.proofs.Stretching.{stays, chain, becomes, template_stretch, comes}
+use Rattle.lower_emit.proofs.Stretching.{stays, chain, becomes, template_stretch, comes, still_on}
 use Rattle.lower_emit.proofs.Growth.{grows}
 
 pub past_ge : (x : Tree) (f : ℕ) → f ≤ past x f
@@ -80,6 +80,8 @@ module _ (r : Range) (table frame : ℕ) (code : List ℕ) where
           current_is = l.current_is;
           code_is = other 0 (λ e. f.not_zero (sym e)) (λ e. is_new.not_zero (sym e)) ∙ here.code_is;
           came_with = here.came_with;
+          framed = here.framed;
+          still = still_on frame r.came.arrays s.arrays t.arrays here.still (λ k ws not_zero not_frame e. other k not_frame (apart s.arrays new k ws is_new e) ∙ e) (other 0 (λ e. f.not_zero (sym e)) (λ e. is_new.not_zero (sym e)));
           frame_is = record {
             not_zero = f.not_zero;
             there = ap (λ m. map.get m frame) l.arrays_are ∙ get-insert_same (map.insert s.arrays new cell) frame (slice_set slots d new);

@@ -3,7 +3,7 @@ use Rattle.std.proofs.Common.{◌≡◌, ℕ, zero, suc, ◌+◌, ◌-◌, ◌*�
 use Rattle.std.specs.Prelude.{slice_index, unwrap_or}
 use Rattle.std.specs.FinMap as fin
 use Rattle.um_word.specs.State.{State, array_at}
-use Rattle.um_word.specs.Loads.{Loads}
+use Rattle.um_word.specs.Loads.{Loads, Loaded}
 use Rattle.um_word.specs.Leads.{Leads}
 use Rattle.um_word.proofs.Arrays.{get-insert_same, get-insert_other}
 use Rattle.um_word.proofs.Leading.{weaken, weaken_along, join}
@@ -16,7 +16,7 @@ use Rattle.code_templates.proofs.Holding.{spent_is, counted, held_zero}
 use Rattle.code_templates.specs.Templates.{call_block, return_outcome}
 use Rattle.code_templates.specs.Laws.{Quietly, ReturnOutcomeLaw, HasWords}
 use Rattle.code_templates.proofs.BlockLaws.{return_outcome_law}
-use Rattle.lower_emit.specs.inner.Stretches.{Range, Stretch, KeepsArrays}
+use Rattle.lower_emit.specs.inner.Stretches.{Range, Stretch, KeepsArrays, entry_of, load_at}
 use Rattle.lower_emit.specs.Stands.{TextTrail, Carries, Marked, Ending}
 use Rattle.lower_emit.specs.Layouts.{Layout, temporary, input_slot}
 use Rattle.lower_emit.specs.inner.Frames.{AtPlace, IsWireSlot}
@@ -32,12 +32,12 @@ use Rattle.lower_emit.proofs.Using.{keeps_all, blocks_stay, Called, call_law, re
 pub follow : (I : State → Loads → Type 0) (n m : ℕ) (Q R : State → Loads → Type 0) (s : State) (l : Loads) → Leads I n Q s l → ((t : State) (k : Loads) → Q t k → Leads I m R t k) → Leads I (n + m) R s l
 follow I n m Q R s l h go = join I n m R s l (weaken I n Q (Leads I m R) go s l h)
 
-pub due_entry : (price : ℕ) (l : Loads) (words : List ℕ) → due price (l ++ (words, 0) ∷ []) ≡ due price l + price
+pub due_entry : (price : ℕ) (l : Loads) (words : List ℕ) → due price (l ++ entry_of words ∷ []) ≡ due price l + price
 unfolding due
 due_entry price [] words = omega arith
 due_entry price (x ∷ l) words = let e = due_entry price l words in omega (arith, e)
 
-pub due_more : (price : ℕ) (l : Loads) (x : List ℕ × ℕ) → due price l ≤ due price (l ++ x ∷ [])
+pub due_more : (price : ℕ) (l : Loads) (x : Loaded) → due price l ≤ due price (l ++ x ∷ [])
 unfolding due
 due_more price [] x = omega arith
 due_more price (y ∷ l) x = let e = due_more price l x in omega (arith, e)
@@ -58,7 +58,7 @@ behind a b c d e n (suc (suc (suc (suc (suc j))))) le = zeros n j
 
 module _ (codes : ℕ → List ℕ) (c : Prices) (m width : ℕ) (y : Layout) (table frame : ℕ) (s0 : State) (l0 : Loads) where
   abbrev pub range : State → Loads → Range
-  range t l = record { place = 0; size = width; came = t; loads = l }
+  range t l = record { place = 0; size = width; frame = frame; came = t; loads = l }
 
   -- in the block, since state t
   abbrev pub At : ℕ → (ℕ → Option Value) → (ℕ → Option TextTrail) → State → Loads → State → Type 0
@@ -91,6 +91,8 @@ module _ (codes : ℕ → List ℕ) (c : Prices) (m width : ℕ) (y : Layout) (t
         current_is = a.here.current_is;
         code_is = a.here.code_is;
         came_with = a.here.code_is;
+        framed = refl;
+        still = λ j words out e. e;
         frame_is = a.here.frame_is;
         out_is = refl;
         rest_is = refl;
@@ -108,11 +110,11 @@ module _ (codes : ℕ → List ℕ) (c : Prices) (m width : ℕ) (y : Layout) (t
   }
 
   -- n cycles that stand within the block and that spend no more than this
-  quiet_step : (n bound place size : ℕ) (Q : State → Loads → Type 0) (t : State) (l : Loads) → t.out ≡ s0.out → t.rest ≡ s0.rest → (code : List ℕ) → fin.get t.arrays 0 ≡ Some code →
+  quiet_step : (n bound place size : ℕ) (but : List ℕ) (Q : State → Loads → Type 0) (t : State) (l : Loads) → t.out ≡ s0.out → t.rest ≡ s0.rest → (code : List ℕ) → fin.get t.arrays 0 ≡ Some code →
       ((u : State) (k : Loads) → Q u k → u.cycles ≡ t.cycles + n → spent u ≤ spent t + bound) → spent t + due c.price l0 + bound ≤ spent s0 + due c.price l + c.price →
-      Leads (Quietly place size t l) n Q t l → Leads (Along c s0 l0) n (λ u k. Q u k × (spent u ≤ spent t + bound)) t l
-  quiet_step n bound place size Q t l out rest code code_is ends low h =
-      let J = Quietly place size t l in
+      Leads (Quietly place size but t l) n Q t l → Leads (Along c s0 l0) n (λ u k. Q u k × (spent u ≤ spent t + bound)) t l
+  quiet_step n bound place size but Q t l out rest code code_is ends low h =
+      let J = Quietly place size but t l in
       let Q1 : State → Loads → Type 0 = λ u k. Q u k × (u.cycles ≡ t.cycles + n) in
       let P : State → Type 0 = λ u. spent u ≤ spent t + bound in
       weaken (Along c s0 l0) n Q1 (λ u k. Q u k × (spent u ≤ spent t + bound)) (λ u k q. (q.0, ends u k q.0 q.1)) t l
@@ -138,7 +140,7 @@ module _ (codes : ℕ → List ℕ) (c : Prices) (m width : ℕ) (y : Layout) (t
       let bound = 8 * (place2 - place) in
       weaken (Along c s0 l0) n (λ u k. (Q u × (k ≡ l)) × (spent u ≤ spent t + bound)) (λ u k. (k ≡ l) × Q u × Fair place2 u k)
       (λ u k q. let b = q.1 in let same = ap (due c.price) q.0.1 in (q.0.1, q.0.0, omega (arith, b, same, fair, le))) t l
-      (quiet_step n bound 0 width (λ u k. Q u × (k ≡ l)) t l i.out_is i.rest_is (codes m) i.at.here.code_is
+      (quiet_step n bound 0 width (frame ∷ []) (λ u k. Q u × (k ≡ l)) t l i.out_is i.rest_is (codes m) i.at.here.code_is
       (λ u k q count.
       let a = at u q.0 in
       let cheap = a.cheap in
@@ -153,11 +155,11 @@ module _ (codes : ℕ → List ℕ) (c : Prices) (m width : ℕ) (y : Layout) (t
         StandsAt (codes m) place (call_block (input_slot north) (input_slot west) callee size m (place + 21)) → 5 ≤ size → temporary y 4 < y.size → callee < length ids → 64 + 4 * size ≤ c.frame → 8 * (place + 21) + c.frame ≤ c.price →
         Leads (Along c s0 l0) 21
         (λ u k. (Called codes table ids callee size (record { caller = frame; block = m; offset = place + 21 }) (record { north = exit_value wires north; west = exit_value wires west }) t u
-        × (k ≡ l ++ (codes callee, 0) ∷ [])) × (spent u ≤ spent t + (21 + c.frame))) t l
+        × (k ≡ l ++ entry_of (codes callee) ∷ [])) × (spent u ≤ spent t + (21 + c.frame))) t l
     call_step place wires stuck t l i north west callee size is_north is_west stand five room inside framed low =
         let fair = i.fair in
-        quiet_step 21 (21 + c.frame) t.finger 21
-        (λ u k. Called codes table ids callee size (record { caller = frame; block = m; offset = place + 21 }) (record { north = exit_value wires north; west = exit_value wires west }) t u × (k ≡ l ++ (codes callee, 0) ∷ []))
+        quiet_step 21 (21 + c.frame) t.finger 21 []
+        (λ u k. Called codes table ids callee size (record { caller = frame; block = m; offset = place + 21 }) (record { north = exit_value wires north; west = exit_value wires west }) t u × (k ≡ l ++ entry_of (codes callee) ∷ []))
         t l i.out_is i.rest_is (codes m) i.at.here.code_is
         (λ u k q count.
         let more = q.0.more in
@@ -167,7 +169,7 @@ module _ (codes : ℕ → List ℕ) (c : Prices) (m width : ℕ) (y : Layout) (t
         (call_law codes table ids (range t l) frame m y t wires stuck place t i.at north west callee size is_north is_west stand five room inside (blocks_stay codes table ids frame s0.arrays t.arrays far i.keeps blocks) l)
 
     module _ (place : ℕ) (wires : ℕ → Option Value) (stuck : ℕ → Option TextTrail) (t : State) (l : Loads) (i : Now place wires stuck t l) (callee size : ℕ) (inputs : Inputs) (u : State) (k : Loads)
-        (called : Called codes table ids callee size (record { caller = frame; block = m; offset = place + 21 }) inputs t u) (loads : k ≡ l ++ (codes callee, 0) ∷ []) (cost : spent u ≤ spent t + (21 + c.frame)) where
+        (called : Called codes table ids callee size (record { caller = frame; block = m; offset = place + 21 }) inputs t u) (loads : k ≡ l ++ entry_of (codes callee) ∷ []) (cost : spent u ≤ spent t + (21 + c.frame)) where
       due_called : due c.price k ≡ due c.price l + c.price
       due_called = ap (due c.price) loads ∙ due_entry c.price l (codes callee)
 
@@ -208,7 +210,7 @@ module _ (codes : ℕ → List ℕ) (c : Prices) (m width : ℕ) (y : Layout) (t
         Ended (range t l) table frame (codes m) y place2 w2 k2 came.value came.mark t u → Fair place2 u k →
         StandsAt (codes m) place2 return_outcome → temporary y 4 < y.size → back.block < length ids → 8 * (place2 + 11) + c.frame ≤ c.price →
         slice_index (array_at s0.arrays frame) 0 ≡ back.caller → slice_index (array_at s0.arrays frame) 1 ≡ back.block → slice_index (array_at s0.arrays frame) 2 ≡ back.offset →
-        Leads (Along c s0 l0) 11 (λ v j. Returned codes table back came frame s0 v × (j ≡ k ++ (codes back.block, back.offset) ∷ []) × (spent v + c.frame + due c.price l0 ≤ spent s0 + due c.price j + c.price)) u k
+        Leads (Along c s0 l0) 11 (λ v j. Returned codes table back came frame s0 v × (j ≡ k ++ load_at (codes back.block) back.offset ∷ []) × (spent v + c.frame + due c.price l0 ≤ spent s0 + due c.price j + c.price)) u k
     unfolding ReturnOutcomeLaw
     return_step back place wires w2 stuck k2 came t l i u k place2 end fair stand room inside low caller_is block_is offset_is =
         let a = end.at in
@@ -222,13 +224,13 @@ module _ (codes : ℕ → List ℕ) (c : Prices) (m width : ℕ) (y : Layout) (t
         let n = a.holds.long in
         let there = a.here.frame_is.there in
         let block = b.each back.block inside in
-        weaken (Along c s0 l0) 11 _ (λ v j. Returned codes table back came frame s0 v × (j ≡ k ++ (codes back.block, back.offset) ∷ []) × (spent v + c.frame + due c.price l0 ≤ spent s0 + due c.price j + c.price))
+        weaken (Along c s0 l0) 11 _ (λ v j. Returned codes table back came frame s0 v × (j ≡ k ++ load_at (codes back.block) back.offset ∷ []) × (spent v + c.frame + due c.price l0 ≤ spent s0 + due c.price j + c.price))
         (λ v j q.
         let h = q.0.0.0 in
         let keeps : KeepsArrays frame u.arrays v.arrays = λ x ws z ne e. ap (λ y. fin.get y x) h.arrays_are ∙ get-insert_other u.arrays 0 (codes back.block) x z ∙ e in
-        let loads = q.0.1 ∙ ap (λ o. k ++ (codes back.block, o) ∷ []) c2 in
+        let loads = q.0.1 ∙ ap (λ o. k ++ load_at (codes back.block) o ∷ []) c2 in
         let d = ap (due c.price) loads in
-        let more = due_more c.price k (codes back.block, back.offset) in
+        let more = due_more c.price k (load_at (codes back.block) back.offset) in
         let cost = q.1 in (
           record {
             running = h.running;
@@ -247,7 +249,7 @@ module _ (codes : ℕ → List ℕ) (c : Prices) (m width : ℕ) (y : Layout) (t
           loads,
           omega (arith, d, more, cost, fair, low),
         )) u k
-        (quiet_step 11 11 u.finger 11 _ u k (a.here.out_is ∙ i.out_is) (a.here.rest_is ∙ i.rest_is) (codes m) a.here.code_is
+        (quiet_step 11 11 u.finger 11 [] _ u k (a.here.out_is ∙ i.out_is) (a.here.rest_is ∙ i.rest_is) (codes m) a.here.code_is
         (λ v j q count.
         let x = spent_is v in
         let z = spent_is u in

@@ -249,7 +249,7 @@ module _ (P : Program) (answer : Answers) (a : Inputs) (w : Surroundings) (frame
       (subst (λ o. Showing cells (place + (6 * length inputs + 49)) (answered_wires side (answer_to known o) wires) (answered_marks number text (answer_to known o) stuck)) some shown) in
       let way2 : is_some (known callee c.inputs) ≡ true → Way rest (place + 6 * length inputs + 49) (answered_wires side (known callee c.inputs) wires) (answered_marks number text (known callee c.inputs) stuck) =
       λ ok. subst (λ q. Way rest q (answered_wires side (known callee c.inputs) wires) (answered_marks number text (known callee c.inputs) stuck)) p
-          (subst (λ o. Way rest (place + (6 * length inputs + 49)) (answered_wires side (answer_to known o) wires) (answered_marks number text (answer_to known o) stuck)) some (way (ap (is_answered known) some ∙ ok))) in
+      (subst (λ o. Way rest (place + (6 * length inputs + 49)) (answered_wires side (answer_to known o) wires) (answered_marks number text (answer_to known o) stuck)) some (way (ap (is_answered known) some ∙ ok))) in
       subst (λ x. Way (Asks one x (ShowsThen one cells rest)) place wires stuck) (same_Some c call (sym some ∙ asked))
       (enabled inputs north west callee size side number text place wires stuck placed.0 placed.1 placed.2 placed.3 inside sized (omega (arith, high))
       (subst (λ z. StandsAt (w.codes m) place (use_code y inputs (input_slot north) (input_slot west) callee size z side number text place)) own_is stand) e

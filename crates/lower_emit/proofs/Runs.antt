@@ -1,21 +1,19 @@
 -- The block of a plan does by itself what its module means.
-use Rattle.std.proofs.Common.{◌≡◌, ℕ, ◌+◌, ◌-◌, ◌*◌, ◌<◌, ◌≤◌, ◌⊎◌, inl, inr, List, [], ◌∷◌, ◌++◌, length, replicate, Option, Some, None, refl, sym, ap, ◌∙◌, subst, arith}
+use Rattle.std.proofs.Common.{◌≡◌, ℕ, ◌+◌, ◌-◌, ◌*◌, ◌<◌, ◌≤◌, List, [], ◌∷◌, ◌++◌, length, replicate, Option, Some, None, refl, sym, ap, ◌∙◌, subst, arith}
 use Rattle.std.specs.Prelude.{slice_index, slice_get, unwrap_or, map, suc, Bool, true, ◌&&◌, ◌==◌, if◌then◌else◌}
 use Rattle.std.specs.Option.{option_map}
 use Rattle.std.specs.List.{Contains}
-use Rattle.std.proofs.lemmas.Bool.{cases_lt}
 use Rattle.std.proofs.lemmas.List.{length-replicate}
 use Rattle.std.proofs.lemmas.Option.{get_or_from_slice_get, slice_get_within}
 use Rattle.um_word.specs.declared.op.Op.{Op}
 use Rattle.um_word.specs.State.{State}
-use Rattle.um_word.specs.Loads.{Loads}
 use Rattle.um_word.specs.Leads.{Leads}
 use Rattle.um_word.proofs.Leading.{weaken}
 use Rattle.codex_values.specs.Value.{Value}
 use Rattle.two_d.specs.declared.command.Side.TheVariants.{S, E}
 use Rattle.two_d.specs.Trees.{Form, send, case, split, call}
 use Rattle.two_d.specs.Meaning.{Inputs, Effect, Answers, Cells, none_fired, stuck_of, cell_of}
-use Rattle.two_d.specs.Programs.{BoxForm, ModuleForm, Program, module_at}
+use Rattle.two_d.specs.Programs.{BoxForm, Program, module_at}
 use Rattle.two_d.specs.Sound.{IsSound, IsKeptOrder}
 use Rattle.two_d.proofs.Sourced.{IsSourced, sourced}
 use Rattle.two_d.proofs.Pushing.{turned, IsPushed, pushed_none, pushed_one, act_pushed}
@@ -38,13 +36,13 @@ use Rattle.lower_emit.specs.inner.Plans.{by_texts}
 use Rattle.lower_emit.specs.Entered.{EntryCarries, IsApart, Return, Entered}
 use Rattle.lower_emit.specs.inner.Ends.{Ended}
 use Rattle.lower_emit.specs.Blocks.{end_code, BlockPlan, entries_code, block_code, block_length}
-use Rattle.lower_emit.specs.KnownOutcomes.{Call, Known, first_text, known_of, texts_of}
+use Rattle.lower_emit.specs.KnownOutcomes.{Known, first_text, known_of, texts_of}
 use Rattle.lower_emit.specs.Boxes.{box_code, box_length, boxes_code, boxes_length}
 use Rattle.lower_emit.specs.inner.Firing.{fired_wires, fired_marks, all_wires, all_marks, all_answered, entry_wires, last_wires, last_marks, ArePlaced, IsGoodBlock}
 use Rattle.lower_emit.specs.inner.Trips.{came_if, block_came}
 use Rattle.lower_emit.specs.Plans.{step_box, box_in, box_if, block_of}
-use Rattle.lower_emit.specs.Surroundings.{Surroundings, AreSurroundings, IsCalled, ReturnsNow}
-use Rattle.lower_emit.specs.BlocksAlone.{Instance, Shows, Doing, ShowsThen, Turn, Plays, BlockRuns, effect_at, turned_too, known_about, frame_layout, most_a_unit}
+use Rattle.lower_emit.specs.Surroundings.{Surroundings, ReturnsNow}
+use Rattle.lower_emit.specs.BlocksAlone.{Instance, Doing, ShowsThen, Turn, Plays, BlockRuns, effect_at, turned_too, known_about, most_a_unit}
 use Rattle.lower_emit.proofs.Words.{box_words, boxes_words, block_words}
 use Rattle.lower_emit.proofs.Lengths as lengths
 use Rattle.lower_emit.proofs.Placed.{is_good}
@@ -120,6 +118,8 @@ module _ (P : Program) (answer : Answers) (a : Inputs) (w : Surroundings) (frame
               current_is = entered.current_is;
               code_is = entered.code_is;
               came_with = entered.code_is;
+              framed = refl;
+              still = λ j words out e. e;
               frame_is = entered.frame_is;
               out_is = refl;
               rest_is = refl;

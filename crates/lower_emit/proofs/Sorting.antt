@@ -19,7 +19,7 @@ use Rattle.lower_emit.specs.Layouts.{zero_slot, Layout, wire_slot, stuck_slot, t
 use Rattle.lower_emit.specs.inner.Frames.{FrameHolds, AtPlace, carrying, IsWireSlot}
 use Rattle.lower_emit.specs.inner.Sorts.{part_of_value, or_else, stuck_at, marking, sorted, CanSort}
 use Rattle.lower_emit.specs.Boxes.{sort_code}
-use Rattle.lower_emit.proofs.Stretching.{chain, becomes, template_stretch, comes}
+use Rattle.lower_emit.proofs.Stretching.{chain, becomes, template_stretch, comes, still_on}
 use Rattle.lower_emit.proofs.Growth.{grows, stands_not_zero}
 use Rattle.lower_emit.proofs.Builds.{one_cell}
 use Rattle.lower_emit.proofs.Boxes.{same_holds, side_holds, marked_grow, carries_grow, chosen_some, side_high}
@@ -105,6 +105,8 @@ module _ (r : Range) (table frame : ℕ) (code : List ℕ) (y : Layout) (s : Sta
           current_is = h.current_is;
           code_is = other 0 (λ e. a.here.frame_is.not_zero (sym e)) ∙ a.here.code_is;
           came_with = a.here.came_with;
+          framed = a.here.framed;
+          still = still_on frame r.came.arrays t.arrays u.arrays a.here.still keeps (other 0 (λ e. a.here.frame_is.not_zero (sym e)));
           frame_is = record { not_zero = a.here.frame_is.not_zero; there = ap (λ m. map.get m frame) h.arrays_are ∙ get-insert_same t.arrays frame (slice_set a.slots d x) };
           out_is = h.out_is ∙ a.here.out_is;
           rest_is = h.rest_is ∙ a.here.rest_is;

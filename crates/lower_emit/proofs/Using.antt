@@ -17,7 +17,7 @@ use Rattle.code_templates.specs.Templates.{call_block, take_outcome, set_slot, m
 use Rattle.code_templates.specs.Laws.{Quietly, chosen_word, CallBlockLaw, TakeOutcomeLaw}
 use Rattle.code_templates.proofs.Straight.{stands_front, stands_back, apart}
 use Rattle.code_templates.proofs.BlockLaws.{call_block_law, take_outcome_law}
-use Rattle.lower_emit.specs.inner.Stretches.{Range, Stretch, KeepsArrays}
+use Rattle.lower_emit.specs.inner.Stretches.{Range, Stretch, KeepsArrays, entry_of}
 use Rattle.lower_emit.specs.Stands.{CellArray, TextTrail, Via, Trails, Carries, Marked, Ending}
 use Rattle.lower_emit.specs.Layouts.{zero_slot, Layout, wire_slot, stuck_slot, temporary, input_slot, SideSlot, slot_of_side}
 use Rattle.lower_emit.specs.inner.Frames.{FrameHolds, AtPlace, IsWireSlot, carrying}
@@ -26,7 +26,7 @@ use Rattle.lower_emit.specs.inner.Ends.{exit_value}
 use Rattle.lower_emit.specs.inner.Uses.{by_caller, CanUse, Returned}
 use Rattle.lower_emit.specs.Boxes.{taken_code}
 use Rattle.lower_emit.specs.Entered.{HasBlocks, IsApart, Return, Entered}
-use Rattle.lower_emit.proofs.Stretching.{chain, becomes, template_stretch, comes}
+use Rattle.lower_emit.proofs.Stretching.{chain, becomes, template_stretch, comes, still_on}
 use Rattle.lower_emit.proofs.Builds.{one_cell}
 use Rattle.lower_emit.proofs.Boxes.{same_holds, side_holds, carries_grow, marked_grow, chosen_some, side_high, for_entry}
 use Rattle.lower_emit.proofs.Sorting.{choose_in, set_temporary, here_is, there_is, mark_holds}
@@ -74,8 +74,8 @@ module _ (codes : ℕ → List ℕ) (table : ℕ) (ids : List ℕ) where
     -- The call: the callee's block is loaded, with the box's inputs in a new frame.
     pub call_law : (north west : Option ℕ) (callee size : ℕ) → IsWireSlot y north → IsWireSlot y west → StandsAt (codes own) place (call_block (input_slot north) (input_slot west) callee size own (place + 21)) →
         5 ≤ size → temporary y 4 < y.size → callee < length ids → HasBlocks codes table ids t.arrays → (l : Loads) →
-        Leads (Quietly t.finger 21 t l) 21
-        (λ u k. Called callee size (record { caller = frame; block = own; offset = place + 21 }) (record { north = exit_value wires north; west = exit_value wires west }) t u × (k ≡ l ++ (codes callee, 0) ∷ [])) t l
+        Leads (Quietly t.finger 21 [] t l) 21
+        (λ u k. Called callee size (record { caller = frame; block = own; offset = place + 21 }) (record { north = exit_value wires north; west = exit_value wires west }) t u × (k ≡ l ++ entry_of (codes callee) ∷ [])) t l
     unfolding CallBlockLaw
     call_law north west callee size is_north is_west stand five room inside b l =
         let n = input_slot north in
@@ -87,7 +87,7 @@ module _ (codes : ℕ → List ℕ) (table : ℕ) (ids : List ℕ) where
         let size_is : length words ≡ size = let z = length-replicate {A = ℕ} (size - 5) 0 in omega (arith, z, five) in
         let there = a.here.frame_is.there in
         let long : 4 < length a.slots = let z = a.holds.long in omega (arith, z, room) in
-        weaken (Quietly t.finger 21 t l) 21 _ (λ u k. Called callee size back inputs t u × (k ≡ l ++ (codes callee, 0) ∷ []))
+        weaken (Quietly t.finger 21 [] t l) 21 _ (λ u k. Called callee size back inputs t u × (k ≡ l ++ entry_of (codes callee) ∷ []))
         (λ u k q.
         let new = q.0.0 in
         let is_new = q.0.1 in
@@ -136,7 +136,7 @@ module _ (codes : ℕ → List ℕ) (table : ℕ) (ids : List ℕ) where
     -- The callee has returned: the frame holds what it held.
     pub returned_law : (number size : ℕ) (back : Return) (inputs : Inputs) (came : Ending) (u v : State) (c : Called number size back inputs t u) → back.block ≡ own → back.caller ≡ frame →
         Returned codes table back came c.frame u v → 4 < length a.slots → (place2 size2 : ℕ) (l : Loads) →
-        (b : AtPlace (record { place = place2; size = size2; came = v; loads = l }) table frame (codes own) y back.offset wires stuck v v) × (b.slots ≡ a.slots)
+        (b : AtPlace (record { place = place2; size = size2; frame = frame; came = v; loads = l }) table frame (codes own) y back.offset wires stuck v v) × (b.slots ≡ a.slots)
     returned_law number size back inputs came u v c own_is frame_is ret long place2 size2 l =
         let keeps : KeepsArrays c.frame t.arrays v.arrays = λ k ws z ne e. ret.keeps k ws z ne (c.keeps k ws z ne e) in
         let same = keeps_all t.arrays v.arrays c.frame c.is_new keeps frame in
@@ -153,6 +153,8 @@ module _ (codes : ℕ → List ℕ) (table : ℕ) (ids : List ℕ) where
               current_is = ret.current_is ∙ frame_is;
               code_is = code_is;
               came_with = code_is;
+              framed = refl;
+              still = λ j words out e. e;
               frame_is = record { not_zero = a.here.frame_is.not_zero; there = there };
               out_is = refl;
               rest_is = refl;
@@ -232,6 +234,8 @@ module _ (r : Range) (table frame : ℕ) (code : List ℕ) (y : Layout) (s : Sta
             current_is = h.current_is;
             code_is = other 0 (λ e. f.not_zero (sym e)) ∙ a.here.code_is;
             came_with = a.here.came_with;
+            framed = a.here.framed;
+            still = still_on frame r.came.arrays t.arrays u.arrays a.here.still keeps (other 0 (λ e. f.not_zero (sym e)));
             frame_is = record { not_zero = f.not_zero; there = ap (λ m. map.get m frame) h.arrays_are ∙ get-insert_same t.arrays frame slots2 };
             out_is = h.out_is ∙ a.here.out_is;
             rest_is = h.rest_is ∙ a.here.rest_is;

@@ -12,7 +12,7 @@ use Rattle.um_word.specs.Leads.{OnStanding}
 use Rattle.two_d.specs.declared.module.Origin.{Origin}
 use Rattle.two_d.specs.Programs.{ModuleForm, Program, module_at, box_count}
 use Rattle.two_d.specs.Sound.{IsKeptOrder}
-use Rattle.two_d.specs.Meaning.{Inputs, Effect, Done, Starts, Answers, Cell, Cells, none_fired}
+use Rattle.two_d.specs.Meaning.{Inputs, Effect, Done, Starts, Answers, Cells, none_fired}
 use Rattle.two_d.specs.Meaning.{act, cell_of, look_in, look_of, meaning_of, stuck_of}
 use Rattle.two_d.specs.Weights.{part}
 use Rattle.lower_plan.specs.Plans.{slot_of, wire_starts}

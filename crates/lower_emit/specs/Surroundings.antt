@@ -75,6 +75,7 @@ pub record IsOwnMoment (w : Surroundings) (frames : List ℕ) (number : ℕ) (s 
   pub own : IsOwnAt t
   pub code_is : fin.get t.arrays 0 ≡ Some (w.codes number)
   pub out_is : t.out ≡ s.out
+  pub stay : Stay w frames s.arrays t.arrays
 
 -- where a block goes on after a call: in its own frame, and not at its begin
 abbrev pub back_to : (number frame offset : ℕ) → Return

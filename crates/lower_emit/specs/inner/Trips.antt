@@ -7,14 +7,13 @@ use Rattle.lower_emit.specs.Blocks.{BlockPlan, block_code, block_length}
 use Rattle.lower_emit.specs.inner.Firing.{last_wires, last_marks, all_answered, entry_wires}
 use Rattle.lower_emit.specs.inner.Firing.{call_of, fired_wires, IsGoodBlock}
 use Rattle.std.specs.Prelude.{Bool, true, false, Option, Some, None, ℕ, List, ◌+◌, if◌then◌else◌}
-use Rattle.std.specs.Prelude.{◌∷◌, ◌++◌, is_some, zero, suc, ◌==◌, ◌≡◌, ◌≤◌, map, ◌<◌, length, ◌*◌}
+use Rattle.std.specs.Prelude.{◌∷◌, ◌++◌, is_some, ◌==◌, ◌≡◌, ◌≤◌, map, ◌<◌, length, ◌*◌}
 use Rattle.std.specs.Prelude.{◌⊎◌, []}
 use Rattle.two_d.specs.Walks.{Visit, Returns, Calls, load_of}
 use Rattle.codex_values.specs.Value.{Value}
 use Rattle.lower_emit.specs.Boxes.{Box, Sends, Sorts, Uses}
 use Rattle.um_word.specs.Loads.{Loads, seen}
 use Rattle.um_word.specs.State.{State}
-use Rattle.um_word.specs.Table.{op_under}
 use Rattle.code_templates.specs.Lines.{IsOwnAt, StandsAt}
 use Rattle.code_templates.specs.inner.Spent.{spent}
 use Rattle.lower_emit.specs.Entered.{Return, Entered}
@@ -65,7 +64,7 @@ Plans = ℕ → BlockPlan
 -- so much for each array that was entered at offset 0
 unfoldable pub due : ℕ → Loads → ℕ
 due price [] = 0
-due price (x ∷ l) = (if x.1 == 0 then price else 0) + due price l
+due price (x ∷ l) = (if x.offset == 0 then price else 0) + due price l
 
 -- what the code of blocks costs: at most `frame` for the frame that a call makes, and `price` for a
 -- block with one such frame
