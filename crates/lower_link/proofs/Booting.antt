@@ -48,9 +48,9 @@ module _ (codes : ℕ → List ℕ) (p : Places) (modules main size : ℕ) (word
     apart_is : (j : ℕ) → j < i → slice_index ids j ≢ table
 
   -- a template of the boot
-  quietly : (n cycles : ℕ) (Q : State → Type 0) (t : State) → t.out ≡ [] → Freely n cycles [] Q t → Leads Quiet cycles (λ u k. Q u × (k ≡ [])) t []
-  quietly n cycles Q t out h =
-      weaken_along (Quietly t.finger n t []) Quiet cycles (λ u k. Q u × (k ≡ [])) (λ u k w. (w.0.own, w.0.out ∙ out, w.1)) t [] (h [])
+  quietly : (but : List ℕ) (n cycles : ℕ) (Q : State → Type 0) (t : State) → t.out ≡ [] → Freely n cycles but [] Q t → Leads Quiet cycles (λ u k. Q u × (k ≡ [])) t []
+  quietly but n cycles Q t out h =
+      weaken_along (Quietly t.finger n but t []) Quiet cycles (λ u k. Q u × (k ≡ [])) (λ u k w. (w.0.own, w.0.out ∙ out, w.1)) t [] (h [])
 
   comes : (table i at : ℕ) (t : State) (ops : List Op) → Copied table i at t → StandsAt words at ops → ArrivesAt ops table 0 t
   comes table i at t ops h stand = record {
@@ -129,7 +129,7 @@ module _ (codes : ℕ → List ℕ) (p : Places) (modules main size : ℕ) (word
         ),
         q.1,
       )) t []
-      (quietly 14 (5 + 9 * p.size i) _ t h.out_is
+      (quietly _ 14 (5 + 9 * p.size i) _ t h.out_is
       (copy_block_law (p.size i) i (p.place i) table 0 h.ids words t (comes table i at t _ h stand2) blocks in_ids h.code_is (linked.some i inside) (linked.within i inside) linked.small))
 
   -- the blocks from i on
@@ -215,7 +215,7 @@ module _ (codes : ℕ → List ℕ) (p : Places) (modules main size : ℕ) (word
         ),
         q.1,
       )) start []
-      (quietly 2 2 _ start refl (make_table_law count 0 0 start (record {
+      (quietly [] 2 2 _ start refl (make_table_law count 0 0 start (record {
         running = refl;
         code = words;
         code_is = code_is;
@@ -276,7 +276,7 @@ module _ (codes : ℕ → List ℕ) (p : Places) (modules main size : ℕ) (word
         out_is = g.out_is ∙ h.out_is;
         held_is = omega (arith, all, two, one, n, five, held_is);
       }) t []
-      (weaken_along (Quietly t.finger 21 t []) Quiet 21 _ (λ u k w. (w.0.own, w.0.out ∙ h.out_is, w.1)) t []
+      (weaken_along (Quietly t.finger 21 [] t []) Quiet 21 _ (λ u k w. (w.0.own, w.0.out ∙ h.out_is, w.1)) t []
       (call_block_law 0 0 main size modules 0 table 0 words h.ids (codes main) t (comes table count at t _ h stand) five h.code_is some some b.there (omega (arith, long, inside)) block []))
 
   all : 5 ≤ size → main < modules → Leads Quiet (boot_cycles p modules) (Booted codes p modules main size input) start []

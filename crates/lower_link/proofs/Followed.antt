@@ -7,7 +7,7 @@ use Rattle.um_word.specs.State.{State, array_at, live_arrays, start_of}
 use Rattle.um_word.specs.Table.{Fault, FingerOutside, BadOperator, ArraysFull, WordsFull, Next, Goes, Stops, cycle, op_under}
 use Rattle.um_word.specs.Run.{Standing, Stands, Failed, run, first_of, ids_left, AreLegal}
 use Rattle.um_word.specs.Free.{free_cycle}
-use Rattle.um_word.specs.Loads.{Loads, next_load, loads_after, loads_by, seen, entries, state_in, fault_in}
+use Rattle.um_word.specs.Loads.{Loads, next_load, loads_after, loads_by, seen, entries, state_in, fault_in, Loaded}
 use Rattle.um_word.specs.Leads.{Leads, MeetsLimit}
 use Rattle.um_word.proofs.Leading.{on_going}
 use Rattle.two_d.specs.Programs.{Program, main_of, module_at}
@@ -25,7 +25,7 @@ use Rattle.lower_emit.specs.inner.Plans.{plans_of, orders_of, prices_of}
 use Rattle.lower_emit.proofs.Priced.{weighs_some}
 use Rattle.lower_link.proofs.Compiled.{may_spend_all}
 use Rattle.lower_link.specs.Realises.{units}
-use Rattle.lower_link.specs.Follows.{extent, block_at, IsCountWithin, IsBounded, Followed, Follows}
+use Rattle.lower_link.specs.Follows.{extent, block_at, IsCountWithin, IsBounded, Followed}
 use Rattle.lower_link.specs.inner.Made.{places_of, IsMade, FollowsLaw}
 use Rattle.lower_link.proofs.Planned.{orders_are, kept_are}
 use Rattle.lower_link.proofs.Realising.{Sound, Stood, begins_with}
@@ -49,7 +49,7 @@ module _ (L : Limits) where
       by_next again (Stops fault) = omega arith
 
       by_halted : ((t : State) → length (loads_by first_of ids_left L n (ids_left s ids) t) ≤ n) → (b : Bool) →
-          length {A = List ℕ × ℕ} (if b then [] else loads_after (cycle s L (first_of ids)) s (loads_by first_of ids_left L n (ids_left s ids))) ≤ suc n
+          length {A = Loaded} (if b then [] else loads_after (cycle s L (first_of ids)) s (loads_by first_of ids_left L n (ids_left s ids))) ≤ suc n
       by_halted again true = omega arith
       by_halted again false = by_next again (cycle s L (first_of ids))
 
@@ -72,7 +72,7 @@ drop_shorter (suc n) (x ∷ xs) = let h = drop_shorter n xs in omega (arith, h)
 last_short : (most first : ℕ) (k : Loads) (rest : List (List ℕ × Bool)) → first ≤ most → AreShort most (seen k ++ rest) → last_length first k ≤ most
 unfolding AreShort
 last_short most first [] rest le h = le
-last_short most first (x ∷ k) rest le h = last_short most (length x.0) k rest h.0 h.1
+last_short most first (x ∷ k) rest le h = last_short most (length x.words) k rest h.0 h.1
 
 module _ (P : Program) (order : ℕ → List ℕ) (words : List ℕ) (blocks : List (ℕ × ℕ)) where
   block_shorter : (i : ℕ) → length (block_at words blocks i) ≤ length words
@@ -189,7 +189,7 @@ module _ (P : Program) (good : IsGood P) (plans : List Plan) (are : ArePlans P p
   Holds Written Ended = Sound input words (route_to (suc n)) Written Ended (may_spend_all P (plans_of P plans) (prices_of P) (places_of blocks))
 
   count : length (seen loads) ≡ length loads
-  count = length-map loads (λ load. (load.0, load.1 == 0))
+  count = length-map loads (λ load. (load.words, load.offset == 0))
 
   few : length (seen loads) ≤ n
   few = let a = loads_few L n ids (start_of words input) in let b = count in omega (arith, a, b)

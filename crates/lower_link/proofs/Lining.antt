@@ -81,7 +81,7 @@ module _ (l : Loads) (base table : ℕ) (code : List ℕ) (text : ℕ → List �
       (chain l base (11 + spare) (6 + spare) spare 5 (2 * length (text j) + 6) (InPrinter table at cell stack arrays out) (InPrinter table place next rest arrays (out ++ text j)) s
       (becomes l base (11 + spare) (6 + spare) 5 _ (InPrinter table at cell stack arrays out) s
       (λ t h. left l base table code at cell stack arrays out s t _ _ _ h.0 refl here.arrays_are here.out_is (h.1 ∙ here.stack_is))
-      (freely l base (11 + spare) (6 + spare) 5 5 0 0 _ code s (ap (λ m. map.get m 0) here.arrays_are ∙ code_is) (omega arith) (omega arith) (λ t h. held_same t.arrays s.arrays h.0.arrays_are) (λ t h. same_length (ap length h.0.out_is)) (go_to_text_law 147 table cell (j ∷ words) code s (comes l base table code 142 cell stack arrays out s (go_to_text 147) code_is here go_line)
+      (freely l base [] (11 + spare) (6 + spare) 5 5 0 0 _ code s (ap (λ m. map.get m 0) here.arrays_are ∙ code_is) (omega arith) (omega arith) (λ t h. held_same t.arrays s.arrays h.0.arrays_are) (λ t h. same_length (ap length h.0.out_is)) (go_to_text_law 147 table cell (j ∷ words) code s (comes l base table code 142 cell stack arrays out s (go_to_text 147) code_is here go_line)
       (ap (λ m. map.get m cell) here.arrays_are ∙ there) (omega arith) (ap (λ m. map.get m 0) here.arrays_are ∙ code_is) (omega (arith, long, inside)) is.small))) (λ s1 h1.
       chain l base (6 + spare) (6 + spare) spare (2 * length (text j)) 6 (InPrinter table (at + 2 * length (text j)) cell stack arrays (out ++ text j)) (InPrinter table place next rest arrays (out ++ text j)) s1
       (write_all l base table code (6 + spare) (6 + spare) (text j) (omega arith) (omega arith) at cell stack arrays out s1 code_is h1 (is.bytes j inside) (stands_front code at (writes (text j)) pop_work written)) (λ s2 h2.
@@ -140,7 +140,7 @@ module _ (l : Loads) (base table : ℕ) (code : List ℕ) (text : ℕ → List �
   unfolding HaltLaw
   halts cell stack arrays out s code_is here =
       becomes l base 1 0 1 _ (Over out) s (λ t h. record { halted = h.halted; out_is = h.out_is ∙ here.out_is })
-      (freely l base 1 0 1 1 0 0 _ code s (ap (λ m. map.get m 0) here.arrays_are ∙ code_is) (omega arith) (omega arith) (λ t h. held_same t.arrays s.arrays h.arrays_are) (λ t h. same_length (ap length h.out_is)) (halt_law table cell s (comes l base table code 107 cell stack arrays out s halt code_is here stop)))
+      (freely l base [] 1 0 1 1 0 0 _ code s (ap (λ m. map.get m 0) here.arrays_are ∙ code_is) (omega arith) (omega arith) (λ t h. held_same t.arrays s.arrays h.arrays_are) (λ t h. same_length (ap length h.out_is)) (halt_law table cell s (comes l base table code 107 cell stack arrays out s halt code_is here stop)))
 
 pub line_law : LinesLaw
 unfolding LinesLaw
@@ -158,7 +158,7 @@ module _ (base : ℕ) (blocks : ℕ → List ℕ) (text : ℕ → List ℕ) (tex
   started a b enough shown ret =
       becomes l base a b 6 _ (λ u. InPrinter table (chosen_word (reg t 3) 6 108) (chosen_word (reg t 3) (reg t 3) (reg t 4)) (reg u 3) t.arrays t.out u) t
       (λ u h. left l base table code (chosen_word (reg t 3) 6 108) (chosen_word (reg t 3) (reg t 3) (reg t 4)) (reg u 3) t.arrays t.out t u _ _ _ h refl refl refl refl)
-      (freely l base a b 6 6 0 0 _ code t ret.code_is (omega (arith, enough)) (omega (arith, enough)) (λ u h. held_same u.arrays t.arrays h.arrays_are) (λ u h. same_length (ap length h.out_is)) (start_text_law 6 108 table t (record {
+      (freely l base [] a b 6 6 0 0 _ code t ret.code_is (omega (arith, enough)) (omega (arith, enough)) (λ u h. held_same u.arrays t.arrays h.arrays_are) (λ u h. same_length (ap length h.out_is)) (start_text_law 6 108 table t (record {
         running = ret.running;
         code = code;
         code_is = ret.code_is;

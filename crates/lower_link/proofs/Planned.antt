@@ -1,5 +1,5 @@
 -- The plans of a good program push what it means.
-use Rattle.std.specs.Prelude.{Option, Some, None, ◌≡◌, ℕ, zero, suc, ◌<◌, ◌≤◌, IsTrue, Bool, true, false, List, [], ◌∷◌, ◌++◌, length, slice_get}
+use Rattle.std.specs.Prelude.{Option, Some, None, ◌≡◌, ℕ, suc, ◌<◌, IsTrue, Bool, true, false, List, [], ◌∷◌, ◌++◌, length, slice_get}
 use Rattle.std.proofs.Common.{refl, sym, ◌∙◌, ap, subst, arith, ◌⊎◌, inl, inr}
 use Rattle.std.proofs.lemmas.Bool.{cases_lt}
 use Rattle.std.proofs.lemmas.Option.{slice_get_past}
@@ -7,8 +7,8 @@ use Rattle.two_d.specs.declared.module.Origin.{Origin}
 use Rattle.two_d.specs.declared.module.Origin.TheVariants.{North, West}
 use Rattle.two_d.specs.declared.module.To.{To}
 use Rattle.two_d.specs.declared.module.To.TheVariants.{N, W, Exit}
-use Rattle.two_d.specs.Programs.{BoxForm, ModuleForm, Program, module_at, main_of, no_module}
-use Rattle.two_d.specs.Sound.{Comes, IsOrder, IsKeptOrder}
+use Rattle.two_d.specs.Programs.{BoxForm, ModuleForm, Program, module_at, main_of}
+use Rattle.two_d.specs.Sound.{Comes, IsKeptOrder}
 use Rattle.two_d.specs.Good.{IsGood}
 use Rattle.two_d.specs.Meaning.{Inputs, Answers, act, look_of, meaning_of}
 use Rattle.two_d.specs.Walks.{AreKeptOrders, AreOrders, visits}

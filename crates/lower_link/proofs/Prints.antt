@@ -5,7 +5,6 @@ use Rattle.std.specs.FinMap as map
 use Rattle.std.proofs.lemmas.List.{append_assoc, append-nil}
 use Rattle.um_word.specs.declared.op.Op.{Op}
 use Rattle.um_word.specs.State.{State, Arrays, reg}
-use Rattle.um_word.specs.Table.{op_under}
 use Rattle.um_word.specs.Loads.{Loads}
 use Rattle.um_word.specs.Leads.{IsNew, Leads}
 use Rattle.um_word.proofs.Arrays.{get-insert_same, get-insert_other}
@@ -52,10 +51,10 @@ module _ (l : Loads) (base : ℕ) where
   becomes a b n Q R s f h paid = weaken Own n (Ends b Q) (Ends b R) (λ t k q. (f t q.0, q.1, q.2)) s l (h paid)
 
   -- A template of so many cycles, after which so much more is held and so many bytes more are written: its credit pays for it until they are.
-  pub freely : (a b size cycles more gain : ℕ) (Q : State → Type 0) (code : List ℕ) (s : State) → map.get s.arrays 0 ≡ Some code → cycles + more ≤ a → b + cycles + more ≤ a + 200 * gain →
-      ((t : State) → Q t → held t.arrays ≤ held s.arrays + more) → ((t : State) → Q t → length t.out ≡ length s.out + gain) → Freely size cycles [] Q s → Prints l base a b cycles Q s
-  freely a b size cycles more gain Q code s there enough left holds longer h paid =
-      let I : State → Loads → Type 0 = Quietly s.finger size s l in
+  pub freely : (but : List ℕ) (a b size cycles more gain : ℕ) (Q : State → Type 0) (code : List ℕ) (s : State) → map.get s.arrays 0 ≡ Some code → cycles + more ≤ a → b + cycles + more ≤ a + 200 * gain →
+      ((t : State) → Q t → held t.arrays ≤ held s.arrays + more) → ((t : State) → Q t → length t.out ≡ length s.out + gain) → Freely size cycles but [] Q s → Prints l base a b cycles Q s
+  freely but a b size cycles more gain Q code s there enough left holds longer h paid =
+      let I : State → Loads → Type 0 = Quietly s.finger size but s l in
       let R : State → Loads → Type 0 = λ t k. (Q t × (k ≡ l ++ [])) × (t.cycles ≡ s.cycles + cycles) in
       let most = spent s + cycles + more in
       let at_most : (t : State) (k : Loads) → R t k → spent t ≤ most = λ t k r.
@@ -103,7 +102,7 @@ module _ (l : Loads) (base : ℕ) where
       write a b enough next byte small stand =
           becomes a b 2 _ (InPrinter table (place + 2) cell stack arrays (out ++ byte ∷ [])) s
           (λ t h. left (place + 2) cell stack arrays (out ++ byte ∷ []) s t _ _ _ h.0 (ap (λ n. n + 2) here.finger) here.arrays_are (ap (λ o. o ++ byte ∷ []) here.out_is) (h.1 ∙ here.stack_is))
-          (freely a b 2 2 0 1 _ code s here_code (omega (arith, enough)) (omega (arith, next)) (λ t h. held_same t.arrays s.arrays h.0.arrays_are) (λ t h. ap length h.0.out_is ∙ length-append s.out (byte ∷ [])) (write_byte_law byte table cell s (comes place cell stack arrays out s (write_byte byte) code_is here stand) small))
+          (freely [] a b 2 2 0 1 _ code s here_code (omega (arith, enough)) (omega (arith, next)) (λ t h. held_same t.arrays s.arrays h.0.arrays_are) (λ t h. ap length h.0.out_is ∙ length-append s.out (byte ∷ [])) (write_byte_law byte table cell s (comes place cell stack arrays out s (write_byte byte) code_is here stand) small))
 
       pub push : (a b : ℕ) → b + 85 ≤ a → (to : ℕ) → StandsAt code place (push_work to) →
           Prints l base a b 9 (λ t. (new : ℕ) × IsNew arrays new × InPrinter table (place + 9) cell new (map.insert arrays new (to ∷ cell ∷ stack ∷ [])) out t) s
@@ -116,7 +115,7 @@ module _ (l : Loads) (base : ℕ) where
             left (place + 9) cell h.0 (map.insert arrays h.0 (to ∷ cell ∷ stack ∷ [])) out s t _ _ _ h.2 (ap (λ n. n + 9) here.finger)
                 (λ i. map.insert (here.arrays_are i) h.0 (to ∷ cell ∷ here.stack_is i ∷ [])) here.out_is h.3,
           ))
-          (freely a b 9 9 76 0 _ code s here_code (omega (arith, enough)) (omega (arith, enough))
+          (freely [] a b 9 9 76 0 _ code s here_code (omega (arith, enough)) (omega (arith, enough))
           (λ t h. held_three t.arrays s.arrays code h.0 to cell (reg s 3) here_code h.1 h.2.arrays_are) (λ t h. same_length (ap length h.2.out_is)) (push_work_law to table cell s (comes place cell stack arrays out s (push_work to) code_is here stand)))
 
       pub pop : (a b : ℕ) → b + 6 ≤ a → (to next rest : ℕ) → StandsAt code place pop_work → map.get arrays stack ≡ Some (to ∷ next ∷ rest ∷ []) → Prints l base a b 6 (InPrinter table to next rest arrays out) s
@@ -124,14 +123,14 @@ module _ (l : Loads) (base : ℕ) where
       pop a b enough to next rest stand item =
           becomes a b 6 _ (InPrinter table to next rest arrays out) s
           (λ t h. left to next rest arrays out s t _ _ _ h.0 refl here.arrays_are here.out_is h.1)
-          (freely a b 6 6 0 0 _ code s here_code (omega (arith, enough)) (omega (arith, enough)) (λ t h. held_same t.arrays s.arrays h.0.arrays_are) (λ t h. same_length (ap length h.0.out_is)) (pop_work_law to table cell next rest s (comes place cell stack arrays out s pop_work code_is here stand) ((λ i. map.get (here.arrays_are i) (here.stack_is i)) ∙ item)))
+          (freely [] a b 6 6 0 0 _ code s here_code (omega (arith, enough)) (omega (arith, enough)) (λ t h. held_same t.arrays s.arrays h.0.arrays_are) (λ t h. same_length (ap length h.0.out_is)) (pop_work_law to table cell next rest s (comes place cell stack arrays out s pop_work code_is here stand) ((λ i. map.get (here.arrays_are i) (here.stack_is i)) ∙ item)))
 
       pub go_part : (a b : ℕ) → b + 4 ≤ a → (f to : ℕ) (words : List ℕ) → StandsAt code place (go_to_part f to) → map.get arrays cell ≡ Some words → f < length words → Prints l base a b 4 (InPrinter table to (slice_index words f) stack arrays out) s
       unfolding GoToPartLaw
       go_part a b enough f to words stand part inside =
           becomes a b 4 _ (InPrinter table to (slice_index words f) stack arrays out) s
           (λ t h. left to (slice_index words f) stack arrays out s t _ _ _ h.0 refl here.arrays_are here.out_is (h.1 ∙ here.stack_is))
-          (freely a b 4 4 0 0 _ code s here_code (omega (arith, enough)) (omega (arith, enough)) (λ t h. held_same t.arrays s.arrays h.0.arrays_are) (λ t h. same_length (ap length h.0.out_is)) (go_to_part_law f to table cell words s (comes place cell stack arrays out s (go_to_part f to) code_is here stand) (ap (λ m. map.get m cell) here.arrays_are ∙ part) inside))
+          (freely [] a b 4 4 0 0 _ code s here_code (omega (arith, enough)) (omega (arith, enough)) (λ t h. held_same t.arrays s.arrays h.0.arrays_are) (λ t h. same_length (ap length h.0.out_is)) (go_to_part_law f to table cell words s (comes place cell stack arrays out s (go_to_part f to) code_is here stand) (ap (λ m. map.get m cell) here.arrays_are ∙ part) inside))
 
       pub branch : (a b : ℕ) → b + 6 ≤ a → (x none some : ℕ) (words : List ℕ) → StandsAt code place (branch_on_slot x none some) → map.get arrays cell ≡ Some words → x < length words →
           Prints l base a b 6 (InPrinter table (chosen_word (slice_index words x) some none) cell stack arrays out) s
@@ -139,7 +138,7 @@ module _ (l : Loads) (base : ℕ) where
       branch a b enough x none some words stand part inside =
           becomes a b 6 _ (InPrinter table (chosen_word (slice_index words x) some none) cell stack arrays out) s
           (λ t h. left (chosen_word (slice_index words x) some none) cell stack arrays out s t _ _ _ h.0 refl here.arrays_are here.out_is (h.1 ∙ here.stack_is))
-          (freely a b 6 6 0 0 _ code s here_code (omega (arith, enough)) (omega (arith, enough)) (λ t h. held_same t.arrays s.arrays h.0.arrays_are) (λ t h. same_length (ap length h.0.out_is)) (branch_on_slot_law x none some table cell words s (comes place cell stack arrays out s (branch_on_slot x none some) code_is here stand) (ap (λ m. map.get m cell) here.arrays_are ∙ part) inside))
+          (freely [] a b 6 6 0 0 _ code s here_code (omega (arith, enough)) (omega (arith, enough)) (λ t h. held_same t.arrays s.arrays h.0.arrays_are) (λ t h. same_length (ap length h.0.out_is)) (branch_on_slot_law x none some table cell words s (comes place cell stack arrays out s (branch_on_slot x none some) code_is here stand) (ap (λ m. map.get m cell) here.arrays_are ∙ part) inside))
 
     pub write_all : (a b : ℕ) (bytes : List ℕ) → 2 ≤ a → b ≤ a + 198 * length bytes → (place cell stack : ℕ) (arrays : Arrays) (out : List ℕ) (s : State) → map.get arrays 0 ≡ Some code → InPrinter table place cell stack arrays out s →
         AreBytes bytes → StandsAt code place (writes bytes) → Prints l base a b (2 * length bytes) (InPrinter table (place + 2 * length bytes) cell stack arrays (out ++ bytes)) s

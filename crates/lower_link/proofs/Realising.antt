@@ -5,7 +5,7 @@ use Rattle.std.proofs.lemmas.Bool.{cases_lt}
 use Rattle.std.proofs.lemmas.List.{append-nil, append_assoc}
 use Rattle.umix_base.specs.declared.limits.Limits.{Limits}
 use Rattle.um_word.specs.State.{State}
-use Rattle.um_word.specs.Table.{Next, Goes, Stops, cycle, op_under}
+use Rattle.um_word.specs.Table.{Next, Goes, Stops, cycle}
 use Rattle.um_word.specs.Run.{Standing, Stands, Failed, run, run_by, run_after, going_on, first_of, ids_left, OnGoes, TakesLegal, AreLegal}
 use Rattle.um_word.specs.Free.{free_cycle}
 use Rattle.um_word.specs.Loads.{Loads, next_load, loads_after, loads_by, seen, state_in}

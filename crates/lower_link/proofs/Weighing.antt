@@ -22,7 +22,7 @@ times_le a b (suc n) le =
 
 owed_entries : (price : ℕ) (k : Loads) → owed price (seen k) ≡ price * entries k
 owed_entries price [] = omega arith
-owed_entries price (load ∷ k) = one (load.1 == 0) (owed_entries price k)
+owed_entries price (load ∷ k) = one (load.offset == 0) (owed_entries price k)
   where
     one : (b : Bool) → owed price (seen k) ≡ price * entries k → (if b then price else 0) + owed price (seen k) ≡ price * ((if b then 1 else 0) + entries k)
     one true e = omega (arith, e)

@@ -6,7 +6,7 @@ use Rattle.std.proofs.lemmas.Bool.{true≢false}
 use Rattle.std.proofs.lemmas.List.{append_assoc, append-nil, length-map, map-append}
 use Rattle.um_word.specs.State.{State, start_of}
 use Rattle.um_word.specs.Table.{op_under}
-use Rattle.um_word.specs.Loads.{Loads, seen, entries}
+use Rattle.um_word.specs.Loads.{Loads, seen, entries, Loaded}
 use Rattle.um_word.specs.Leads.{Leads}
 use Rattle.um_word.proofs.Arrays.{get-insert_same}
 use Rattle.um_word.proofs.Leading.{weaken, weaken_along}
@@ -21,7 +21,7 @@ use Rattle.two_d.specs.Texts.{site_line, text_of, caller_line, caller_lines}
 use Rattle.lower_link.proofs.Sites.{IsCallerIn, IsOutcomeIn}
 use Rattle.code_templates.specs.Lines.{IsOwn, IsOwnAt}
 use Rattle.code_templates.specs.inner.Spent.{spent}
-use Rattle.code_templates.proofs.Spent.{length_zero, at_begin, all_along, prefix_back}
+use Rattle.code_templates.proofs.Spent.{at_begin, all_along, prefix_back}
 use Rattle.code_templates.proofs.Staying.{IsSame, own_stays}
 use Rattle.code_templates.proofs.Holding.{spent_is, counted, loads_counted}
 use Rattle.lower_emit.specs.Stands.{TextTrail, At, Via, Ending}
@@ -46,17 +46,17 @@ use Rattle.two_d.proofs.Callers.{callers_few}
 owed_is : (price : ℕ) (l : Loads) → due price l ≡ owed price (seen l)
 unfolding due
 owed_is price [] = refl
-owed_is price (x ∷ l) = ap (λ n. (if x.1 == 0 then price else 0) + n) (owed_is price l)
+owed_is price (x ∷ l) = ap (λ n. (if x.offset == 0 then price else 0) + n) (owed_is price l)
 
 pub entries_owed : (l : Loads) → entries l ≡ owed 1 (seen l)
 entries_owed [] = refl
-entries_owed (x ∷ l) = ap (λ n. (if x.1 == 0 then 1 else 0) + n) (entries_owed l)
+entries_owed (x ∷ l) = ap (λ n. (if x.offset == 0 then 1 else 0) + n) (entries_owed l)
 
 -- what is on the route with more loads is so with fewer
 fewer : (whole : List (List ℕ × Bool)) (l k : Loads) → IsOnRoute whole (l ++ k) → IsOnRoute whole l
 fewer whole l k h = (
   seen k ++ h.0,
-  sym (append_assoc (seen l) (seen k) h.0) ∙ ap (λ x. x ++ h.0) (sym (map-append (λ (x : List ℕ × ℕ). (x.0, x.1 == 0)) l k)) ∙ h.1,
+  sym (append_assoc (seen l) (seen k) h.0) ∙ ap (λ x. x ++ h.0) (sym (map-append (λ (x : Loaded). (x.words, x.offset == 0)) l k)) ∙ h.1,
 )
 
 -- the texts of a trail are its lines
@@ -428,7 +428,7 @@ module _ (P : Program) (order : ℕ → List ℕ) (plans : Plans) (texts : TextN
           (λ u j h.
           let all : seen j ≡ route P order blocks (blocks modules) (suc n) =
           h.0 ∙ ap (λ x. seen x ++ map (load_of blocks) visits) b.loads ∙ ap (map (load_of blocks)) (sym walk_is) ∙ sym route_is in
-          let f : List ℕ × ℕ → List ℕ × Bool = λ x. (x.0, x.1 == 0) in
+          let f : Loaded → List ℕ × Bool = λ x. (x.words, x.offset == 0) in
           let a = length-map j f in
           let e = ap length all in
           let m = h.1 in

@@ -6,7 +6,6 @@ use Rattle.code_templates.specs.Templates.{copy_block, make_table, call_block}
 use Rattle.code_templates.specs.Lines.{StandsAt, IsOwnAt}
 use Rattle.code_templates.specs.Laws.{piece}
 use Rattle.um_word.specs.State.{State, start_of}
-use Rattle.um_word.specs.Table.{op_under}
 use Rattle.um_word.specs.Loads.{Loads}
 use Rattle.two_d.specs.Meaning.{no_inputs}
 use Rattle.code_templates.specs.inner.Spent.{held}
@@ -70,7 +69,7 @@ pub record Booted (codes : ℕ → List ℕ) (p : Places) (modules main size : �
   pub entered : Entered codes table ids main size None None
       (record { caller = 0; block = modules; offset = 0 }) no_inputs frame t
   pub count_is : length ids ≡ suc modules
-  pub loads : k ≡ (codes main, 0) ∷ []
+  pub loads : k ≡ record { words = codes main; offset = 0 } ∷ []
   pub out_is : t.out ≡ []
   pub held_is : held t.arrays ≡ boot_holds p modules size
 

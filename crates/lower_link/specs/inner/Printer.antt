@@ -6,7 +6,6 @@ use Rattle.code_templates.specs.Templates.{write_byte, push_work, pop_work, bran
 use Rattle.code_templates.specs.Templates.{go_to_part, start_text, go_to_text, halt}
 use Rattle.um_word.specs.State.{State, Arrays, reg}
 use Rattle.code_templates.specs.inner.Spent.{spent}
-use Rattle.um_word.specs.Table.{op_under}
 use Rattle.um_word.specs.Loads.{Loads}
 use Rattle.um_word.specs.Leads.{Leads}
 use Rattle.code_templates.specs.Lines.{IsOwnAt, StandsAt}
