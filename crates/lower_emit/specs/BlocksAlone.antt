@@ -85,8 +85,8 @@ ComesInRuns I n Q s =
     (L : Limits) (done left : ℕ) (ids : List ℕ) → done + left ≡ n → AreLegal L done ids s →
     OnStanding (run L done ids s) (λ t. OnTheWay I left Q t) (λ t fault. IsLimit fault × I t)
 
--- In n cycles of its own the block comes from u to a state that has Q; s is where it was entered, or
--- had its last answer.
+-- In n cycles of its own the block comes from u to a state that has Q; s is the state in which it was
+-- entered or had its last answer.
 abbrev pub Comes : Instance → (n : ℕ) → (Q : State → Type 0) → (s u : State) → Type 0
 Comes one n Q s u =
     ComesInRuns (λ t. IsOwnMoment one.around one.others one.number s t) n Q u
@@ -112,7 +112,8 @@ Asks one call rest n s u =
     IsAnswered one.around one.others (back_to one.number one.frame now.offset) ending t v →
     rest j v v)) s u
 
--- a box that does this has its turn: a `use` makes its call first
+-- a box that does this has its turn, and then comes the rest: a `use` makes its call first, and a
+-- box that isn't enabled does nothing
 abbrev pub Turn : Instance → Option Effect → (rest : Doing) → Doing
 Turn one None rest = rest
 Turn one (Some (Done cell)) rest = rest
