@@ -9,8 +9,8 @@ pub mod KeptLemmas
 pub mod LookLemmas
 pub mod MarkLemmas
 pub mod OutcomeLemmas
+pub mod PlaceLemmas
 pub mod ReadyLemmas
-pub mod RowLemmas
 pub mod RowReady
 pub mod StartLemmas
 pub mod StateLemmas

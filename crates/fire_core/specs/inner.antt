@@ -4,4 +4,5 @@ pub mod Look
 pub mod Outcomes
 pub mod Ready
 pub mod Rows
+pub mod Places
 pub mod Changes

@@ -11,6 +11,8 @@ mod look;
 mod outcomes;
 mod ready;
 mod rows;
+#[cfg(test)]
+mod tests;
 
 pub use evaluation::Core;
 pub use event::Event;

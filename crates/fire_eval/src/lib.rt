@@ -4,6 +4,8 @@
 mod picks;
 mod report;
 mod run;
+#[cfg(test)]
+mod tests;
 
 pub use picks::Picks;
 pub use report::{EvalFault, Report};

@@ -1,0 +1,123 @@
+//! A program with a `use`, event by event.
+
+ghost use Rattle.fire_core.specs.Cores.{IsCoreOf};
+
+use crate::{Core, Event};
+use codex_values::Shape;
+use std::alloc::Global;
+use std::test::Fail;
+use two_d::{BoxRow, Command, Exp, Module, Name, Origin, Outcome, Program, Side, good_program};
+
+/// The module `pass`, which sends to its exit what comes from the west.
+fn pass(alloc: Global) -> Result<Module, Fail> {
+    let name = Name::read(alloc, b"pass")?.ok_or("a name")?;
+    let row = BoxRow {
+        command: Command::Send(vec![in alloc; (Exp::W, Side::E)]?),
+        n: None,
+        w: Some(Origin::West),
+    };
+    Ok(Module {
+        name,
+        north: false,
+        west: true,
+        boxes: vec![in alloc; row]?,
+        exits: vec![in alloc; Some(Origin::East(0))]?,
+    })
+}
+
+/// The module `main`, whose first box sends `()` to a use of `pass`.
+fn main_of_pass(alloc: Global) -> Result<Module, Fail> {
+    let name = Name::read(alloc, b"main")?.ok_or("a name")?;
+    let first = BoxRow {
+        command: Command::Send(vec![in alloc; (Exp::Unit, Side::E)]?),
+        n: None,
+        w: None,
+    };
+    let used = Name::read(alloc, b"pass")?.ok_or("a name")?;
+    let second = BoxRow {
+        command: Command::Call(used),
+        n: None,
+        w: Some(Origin::East(0)),
+    };
+    Ok(Module {
+        name,
+        north: false,
+        west: false,
+        boxes: vec![in alloc; first, second]?,
+        exits: vec![in alloc; Some(Origin::East(1))]?,
+    })
+}
+
+/// The program of these two modules.
+fn program_of(alloc: Global, pass: Module, main: Module) -> Result<Program, Fail> {
+    if !pass.sound() {
+        return Err("a sound module".into());
+    }
+    if !main.sound() {
+        return Err("a sound module".into());
+    }
+    let modules = vec![in alloc; pass, main]?;
+    Ok(good_program(alloc, modules)?)
+}
+
+/// Whether the ready events that are kept are just these.
+fn are_kept(core: &Core, program: &Program, events: &[Event]) -> bool
+    requires { IsCoreOf program.now core.now }
+{
+    if events.len() != core.ready_len(program) {
+        return false;
+    }
+    for k in 0..events.len() {
+        if events[k] != core.ready_at(program, k) {
+            return false;
+        }
+    }
+    true
+}
+
+/// Makes the first ready event, which has to be this one. What is kept has to be what is looked for.
+fn makes(alloc: Global, core: &mut Core, program: &Program, event: Event) -> Result<(), Fail>
+    requires { IsCoreOf program.now core.old }
+    ensures { IsCoreOf program.now core.new }
+{
+    let ready = core.ready(alloc, program)?;
+    if !are_kept(core, program, &ready) {
+        return Err("the ready events".into());
+    }
+    if core.instances() > 9 {
+        return Err("few instances".into());
+    }
+    if core.ready_len(program) == 0 {
+        return Err("a ready event".into());
+    }
+    let first = core.ready_at(program, 0);
+    if first != event {
+        return Err("the first ready event".into());
+    }
+    core.step(program, first)?;
+    Ok(())
+}
+
+/// Whether instance 0 has ended with the value `()`.
+fn has_unit(core: &Core) -> bool {
+    match core.outcome() {
+        Some(Outcome::Value(at)) => core.values().shape(at) == Shape::Unit,
+        _ => false,
+    }
+}
+
+#[test]
+fn an_instance_starts_and_ends(rt: HostRuntime) -> Result<(), Fail> {
+    let alloc = rt.alloc();
+    let program = program_of(alloc, pass(alloc)?, main_of_pass(alloc)?)?;
+    let mut core = Core::start(alloc, &program)?;
+    makes(alloc, &mut core, &program, Event::Fire(0, 0))?;
+    makes(alloc, &mut core, &program, Event::Fire(0, 1))?;
+    makes(alloc, &mut core, &program, Event::Fire(1, 0))?;
+    makes(alloc, &mut core, &program, Event::End(1))?;
+    makes(alloc, &mut core, &program, Event::End(0))?;
+    assert_eq!(rt; core.ready_len(&program), 0);
+    assert_eq!(rt; core.instances(), 2);
+    assert!(rt; has_unit(&core));
+    Ok(())
+}
