@@ -9,6 +9,7 @@ pub mod KeptLemmas
 pub mod LookLemmas
 pub mod MarkLemmas
 pub mod OutcomeLemmas
+pub mod PlainLemmas
 pub mod ReadyLemmas
 pub mod RowLemmas
 pub mod RowReady

@@ -9,8 +9,10 @@ mod kept;
 pub mod laws;
 mod look;
 mod outcomes;
+mod plain;
 mod ready;
 mod rows;
 
 pub use evaluation::Core;
 pub use event::Event;
+pub use plain::{Meant, mean};
