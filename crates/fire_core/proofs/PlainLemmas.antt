@@ -1,5 +1,5 @@
 -- What boxes, rounds and instances come to, from what was computed of them.
-use Rattle.std.specs.Prelude.{Option, Some, None, ◌≡◌, ℕ, zero, suc, ◌+◌, ◌<◌, ◌≤◌, Bool, true, false, not, ◌&&◌, if◌then◌else◌, List, [], ◌∷◌, ◌++◌, map, length, min, slice_index_or}
+use Rattle.std.specs.Prelude.{Option, Some, None, ◌≡◌, ℕ, zero, suc, ◌+◌, ◌<◌, ◌≤◌, Bool, true, false, not, ◌&&◌, if◌then◌else◌, List, [], ◌∷◌, ◌++◌, map, length, min, slice_get, slice_index_or}
 use Rattle.std.specs.Option.{option_map}
 use mathlib.Core.Path.{fun_ext}
 use Rattle.std.proofs.Common.{refl, sym, ◌∙◌, ap, subst, arith, inl, inr}
@@ -14,11 +14,12 @@ use Rattle.two_d.specs.Good.{IsGood}
 use Rattle.two_d.specs.Meaning as mean
 use Rattle.two_d.specs.Meaning.{Answers, Meaning, act, all_below, all_known, cells_from, cell_of, look_in, look_of, mean as means, meaning_of, outcome_of, pulled, sum_below, summary_of}
 use Rattle.two_d.specs.Programs.{Program, box_count}
-use Rattle.two_d.specs.Steps.{Instance, fired, wires, end_of}
+use Rattle.two_d.specs.Steps.{Event, Instance, Table, fired, wires, end_of, events_from, is_ready, ready}
 use Rattle.two_d.specs.Texts.{outcome_in}
 use Rattle.two_d.specs.declared.trail.Trail.{Trail as TrailNode}
 use Rattle.two_d.specs.Trails.{Trail, KeepsTrails, trails_of}
 use Rattle.two_d.proofs.KeptOrders.{kept_orders, kept_valid}
+use Rattle.two_d.proofs.Picks.{get-filter}
 use Rattle.two_d.proofs.Pulling.{act-past, pulled-whole}
 use Rattle.two_d.proofs.Starting.{starts-there}
 use Rattle.fire_core.specs.declared.act.Effect.{Effect}
@@ -224,3 +225,8 @@ row-fits n m t kind inputs cells le fits fit = record {
 pub row-same : (v : List Value) (t : List Trail) (m : ℕ) (a : mean.Inputs) (look : Origin → Option Value) (row row' : RowForm) → row ≡ row' →
     IsRowOf v t m a look row' → IsRowOf v t m a look row
 row-same v t m a look row row' is h = subst (IsRowOf v t m a look) (sym is) h
+
+-- what stands among the ready events is ready
+pub ready-at : (P : Program) (T : Table) (k : ℕ) (e : Event) → slice_get (ready P T) k ≡ Some e → is_ready P T e ≡ true
+unfolding ready
+ready-at P T k e at = get-filter (is_ready P T) (events_from P 0 T) k e at
