@@ -1,5 +1,5 @@
 -- What boxes, rounds and instances come to, from what was computed of them.
-use Rattle.std.specs.Prelude.{Option, Some, None, ◌≡◌, ℕ, zero, suc, ◌+◌, ◌<◌, ◌≤◌, Bool, true, false, not, ◌&&◌, if◌then◌else◌, List, [], ◌∷◌, ◌++◌, map, length, min, slice_get, slice_index_or}
+use Rattle.std.specs.Prelude.{Option, Some, None, ◌≡◌, ℕ, suc, ◌+◌, ◌<◌, ◌≤◌, Bool, true, false, not, ◌&&◌, if◌then◌else◌, List, [], ◌∷◌, ◌++◌, map, length, slice_get, slice_index_or}
 use Rattle.std.specs.Option.{option_map}
 use mathlib.Core.Path.{fun_ext}
 use Rattle.std.proofs.Common.{refl, sym, ◌∙◌, ap, subst, arith, inl, inr}
@@ -29,7 +29,7 @@ use Rattle.fire_core.specs.declared.plain.rounds.Round.{Round}
 use Rattle.fire_core.specs.inner.Acts.{effect_in}
 use Rattle.fire_core.specs.inner.Look.{inputs_at, InputsFit}
 use Rattle.fire_core.specs.inner.Plain.{Begins, CellsFit, IsFired, IsRound, IsRowOf, effects_in, known_in, row_for}
-use Rattle.fire_core.specs.inner.Rows.{RowForm, RowFits, CellFits, cell_in, inputs_in, instance_in}
+use Rattle.fire_core.specs.inner.Rows.{RowForm, RowFits, CellFits, cell_in, instance_in}
 use Rattle.fire_core.specs.Plain.{stopped, with_stops}
 use Rattle.fire_core.specs.declared.plain.boxes.Fired.{Fired}
 use Rattle.fire_core.specs.declared.rows.Cell.{Cell}

@@ -12,7 +12,11 @@ stopped count = min count (2 ^ 64 - 1)
 
 -- a meaning whose counts stop there
 abbrev pub with_stops : Meaning → Meaning
-with_stops r = record { outcome = r.outcome; firings = stopped r.firings; instances = stopped r.instances }
+with_stops r = record {
+  outcome = r.outcome;
+  firings = stopped r.firings;
+  instances = stopped r.instances;
+}
 
 -- the meaning that the evaluator gives
 abbrev pub given_by : Meant → Meaning

@@ -18,8 +18,8 @@ use std::alloc::Global;
 use two_d::{Outcome, Program, TrailStore};
 use umix_base::Memory;
 
-/// What a program means: its outcome, whose place is in its store, and the firings and instances that
-/// it takes. A count that would pass 2^64 - 1 stops there.
+/// What a program means: its outcome, whose place is in its store, and the firings and instances
+/// that it takes. A count that would pass 2^64 - 1 stops there.
 #[derive(Drop)]
 pub struct Meant {
     pub outcome: Outcome,
@@ -29,11 +29,11 @@ pub struct Meant {
     pub trails: TrailStore,
 }
 
-/// What a program means by uses that are nested less than `depth` deep, where it means something by
-/// them. It is computed as it is defined, from no events: each value is pulled from where it comes.
-/// Slow on purpose: whenever values are pulled through one box more, each use is asked anew, so the
-/// time is exponential in the depth, and the stores keep all that was made. The stack grows with the
-/// depth.
+/// What a program means by uses that are nested less than `depth` deep, where it means something
+/// by them. It is computed as it is defined, from no events: each value is pulled from where it
+/// comes. Slow on purpose: whenever values are pulled through one box more, each use is asked anew,
+/// so the time is exponential in the depth, and the stores keep all that was made. The stack grows
+/// with the depth at which uses are nested, up to `depth`.
 pub fn mean(alloc: Global, program: &Program, depth: u64) -> Result<Option<Meant>, Memory>
     ensures means { IfOk result (λ meant. option_map given_by meant
         ≡ option_map with_stops (mean.mean program.now depth (main_of program.now) no_inputs)) }

@@ -1,5 +1,5 @@
 -- What the plain evaluator has computed, by places of the stores.
-use Rattle.std.specs.Prelude.{◌≡◌, ℕ, ◌<◌, Option, Some, None, List, [], length, slice_index_or, IfSome}
+use Rattle.std.specs.Prelude.{◌≡◌, ℕ, ◌<◌, Option, None, List, length, slice_index_or, IfSome}
 use Rattle.std.specs.Option.{option_map}
 use Rattle.codex_values.specs.Value.{Value}
 use Rattle.two_d.specs.declared.module.Origin.{Origin}

@@ -1,5 +1,5 @@
 -- Each value is pulled through one box more by each round.
-use Rattle.std.specs.Prelude.{◌≡◌, ℕ, ◌-◌, [], length, None, Some}
+use Rattle.std.specs.Prelude.{◌≡◌, ◌-◌, [], length, Some}
 use Rattle.std.specs.Option.{option_map}
 use Rattle.std.proofs.Common.{refl, sym, ◌∙◌, ap, subst, arith}
 use Rattle.std.proofs.lemmas.List.{length-map}
@@ -10,7 +10,6 @@ use Rattle.two_d.specs.Programs.{ModuleForm, box_count, box_of}
 use Rattle.two_d.specs.Trails.{trails_of}
 use Rattle.two_d.proofs.TrailLemmas as trail
 use Rattle.fire_core.specs.inner.Acts.{effect_in}
-use Rattle.fire_core.specs.inner.Look.{inputs_at}
 use Rattle.fire_core.specs.inner.Plain.{EffectFitsIn, IsFired, IsRound, effects_in, row_for}
 use Rattle.fire_core.specs.inner.Rows.{RowFits, row_of}
 use Rattle.fire_core.proofs.FireLemmas.{module-is}

@@ -1,5 +1,5 @@
 -- Only the depth falls: a use is asked at the depth of its box, and an instance asks one less.
-use Rattle.std.specs.Prelude.{◌≡◌, ℕ, ◌+◌, ◌*◌, length}
+use Rattle.std.specs.Prelude.{◌+◌, ◌*◌, length}
 use Rattle.codex_values.specs.Store.{Keeps, values_of}
 use Rattle.two_d.specs.Meaning.{mean, pulled}
 use Rattle.two_d.specs.Trails.{KeepsTrails, trails_of}

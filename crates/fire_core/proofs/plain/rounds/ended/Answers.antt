@@ -1,10 +1,9 @@
 -- The outcome is that of the cells and of what is pulled.
-use Rattle.std.specs.Prelude.{◌≡◌, length, None}
-use Rattle.std.proofs.Common.{sym, ◌∙◌, ap, subst, arith}
+use Rattle.std.specs.Prelude.{◌≡◌, length}
+use Rattle.std.proofs.Common.{sym, ◌∙◌, ap, subst}
 use Rattle.two_d.specs.Programs.{module_at, module_of, box_count}
 use Rattle.two_d.specs.Trails.{trails_of}
-use Rattle.fire_core.specs.inner.Plain.{row_for}
-use Rattle.fire_core.specs.inner.Rows.{RowForm, RowFits, row_of}
+use Rattle.fire_core.specs.inner.Rows.{RowForm, RowFits}
 use Rattle.fire_core.proofs.FireLemmas.{module-is}
 use Rattle.fire_core.proofs.PlainLemmas.{ended-outcome, known-ended}
 use Rattle.fire_core.proofs.plain.rounds.ended.Goals as goal

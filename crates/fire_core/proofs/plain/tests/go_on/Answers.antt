@@ -1,4 +1,3 @@
-use Rattle.two_d.specs.Steps.{is_ready, events_from}
 use Rattle.fire_core.specs.Events.{event_of}
 use Rattle.fire_core.proofs.PlainLemmas.{ready-at}
 use Rattle.fire_core.proofs.plain.tests.go_on.Goals as goal
