@@ -10,6 +10,7 @@ pub mod LookLemmas
 pub mod MarkLemmas
 pub mod OutcomeLemmas
 pub mod PlaceLemmas
+pub mod PlainLemmas
 pub mod ReadyLemmas
 pub mod RowReady
 pub mod StartLemmas

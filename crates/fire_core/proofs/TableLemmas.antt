@@ -97,7 +97,7 @@ module _ (nodes nodes' : List Shape) (trails trails' : List TrailNode) (keeps : 
   kept-table (row ∷ rows) fits = rw (kept-row row (fits 0 (omega arith)), kept-table rows (λ i lt. fits (suc i) (omega arith))) refl
 
 -- places stay below numbers that grow
-place-more : (n m : ℕ) (at : Option ℕ) → n ≤ m → IsPlace n at → IsPlace m at
+pub place-more : (n m : ℕ) (at : Option ℕ) → n ≤ m → IsPlace n at → IsPlace m at
 place-more n m None le fits = tt
 place-more n m (Some at) le fits = omega (arith, fits)
 

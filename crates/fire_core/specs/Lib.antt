@@ -1,3 +1,4 @@
 pub mod Events
 pub mod Cores
+pub mod Plain
 pub mod inner

@@ -9,6 +9,7 @@ mod kept;
 pub mod laws;
 mod look;
 mod outcomes;
+mod plain;
 mod ready;
 mod rows;
 #[cfg(test)]
@@ -16,3 +17,4 @@ mod tests;
 
 pub use evaluation::Core;
 pub use event::Event;
+pub use plain::{Meant, mean};
