@@ -67,6 +67,3 @@ pub fn mean(alloc: Global, program: &Program, depth: u64) -> Result<Option<Meant
         })),
     }
 }
-
-#[cfg(test)]
-mod tests;

@@ -1,12 +1,16 @@
-//! A program with a `use`, event by event.
+//! A program with a `use`, event by event, and by the plain evaluator.
 
+ghost use Rattle.std.specs.Prelude.{length, IfSome};
+ghost use Rattle.two_d.specs.Texts.{IsPlaceIn};
 ghost use Rattle.fire_core.specs.Cores.{IsCoreOf};
 
-use crate::{Core, Event};
-use codex_values::Shape;
+use crate::{Core, Event, mean};
+use codex_values::{Shape, ValueStore};
 use std::alloc::Global;
 use std::test::Fail;
-use two_d::{BoxRow, Command, Exp, Module, Name, Origin, Outcome, Program, Side, good_program};
+use two_d::{
+    BoxRow, Command, Exp, Module, Name, Origin, Outcome, Program, Side, TrailStore, good_program,
+};
 
 /// The module `pass`, which sends to its exit what comes from the west.
 fn pass(alloc: Global) -> Result<Module, Fail> {
@@ -98,10 +102,12 @@ fn makes(alloc: Global, core: &mut Core, program: &Program, event: Event) -> Res
     Ok(())
 }
 
-/// Whether instance 0 has ended with the value `()`.
-fn has_unit(core: &Core) -> bool {
-    match core.outcome() {
-        Some(Outcome::Value(at)) => core.values().shape(at) == Shape::Unit,
+/// Whether the outcome is `()`.
+fn is_unit(values: &ValueStore, trails: &TrailStore, outcome: Option<Outcome>) -> bool
+    requires { IfSome outcome (IsPlaceIn (length values.now) (length trails.now)) }
+{
+    match outcome {
+        Some(Outcome::Value(at)) => matches!(values.shape(at), Shape::Unit),
         _ => false,
     }
 }
@@ -118,6 +124,10 @@ fn an_instance_starts_and_ends(rt: HostRuntime) -> Result<(), Fail> {
     makes(alloc, &mut core, &program, Event::End(0))?;
     assert_eq!(rt; core.ready_len(&program), 0);
     assert_eq!(rt; core.instances(), 2);
-    assert!(rt; has_unit(&core));
+    assert!(rt; is_unit(core.values(), core.trails(), core.outcome()));
+    let meant = mean(alloc, &program, 2)?.ok_or("a meaning")?;
+    assert_eq!(rt; (meant.firings, meant.instances), (3, 2));
+    assert!(rt; is_unit(&meant.values, &meant.trails, Some(meant.outcome)));
+    assert!(rt; mean(alloc, &program, 1)?.is_none());
     Ok(())
 }
