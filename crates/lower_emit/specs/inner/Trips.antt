@@ -73,10 +73,10 @@ pub record Prices : Type 0 where
   pub price : ℕ
 
 -- On the way from a block that was entered in state s, with the loads l: the blocks stand in their
--- arrays, nothing is written or read, and of what was spent no more than the price of this block and
--- of those entered since.
-pub record Along (codes : ℕ → List ℕ) (ids : List ℕ) (c : Prices) (s : State) (l : Loads) (t : State)
-    (k : Loads) : Type 0 where
+-- arrays, nothing is written or read, and of what was spent no more than the price of this block
+-- and of those entered since.
+pub record Along (codes : ℕ → List ℕ) (ids : List ℕ) (c : Prices) (s : State) (l : Loads)
+    (t : State) (k : Loads) : Type 0 where
   pub own : IsOwnAt t
   pub blocks : BlocksStand codes ids t
   pub out_is : t.out ≡ s.out
