@@ -18,7 +18,7 @@ make_cell_law a b i j d table frame slots s c f ha hb hd hi hj =
     let x = slice_index slots a in
     let one = slice_set empty_cell i x in
     let hj2 : j < length one = let n = length-set empty_cell i x in omega (arith, n, hj) in
-    template (make_cell a b i j d) table frame _ _ s c
+    template (make_cell a b i j d) refl table frame _ _ s c
     (set (index f.there (there slots a ha)
     (set (index f.there (there slots b hb)
     (set (alloc (λ id new.
@@ -30,7 +30,7 @@ make_cell_law a b i j d table frame slots s c f ha hb hd hi hj =
 pub set_slot_law : SetSlotLaw freely
 unfolding SetSlotLaw
 set_slot_law k d table frame slots s c f hd =
-    template (set_slot k d) table frame _ _ s c
+    template (set_slot k d) refl table frame _ _ s c
     (set (set (amend (named f.not_zero) f.there (there slots d hd) (end (arrives, refl)))))
 
 choose_by : (z c a b d table frame : ℕ) (slots : List ℕ) (s : State) →
@@ -39,7 +39,7 @@ choose_by : (z c a b d table frame : ℕ) (slots : List ℕ) (s : State) →
     Freely 9 9 (frame ∷ []) [] (λ t. Leaves (s.finger + 9) table frame
     (map.insert s.arrays frame (slice_set slots d (chosen_word z (slice_index slots a) (slice_index slots b)))) s.out s t) s
 choose_by zero c a b d table frame slots s e comes f hc ha hb hd =
-    template (choose_slot c a b d) table frame _ _ s comes
+    template (choose_slot c a b d) refl table frame _ _ s comes
     (set (index f.there (there slots b hb)
     (set (index f.there (there slots a ha)
     (set (index f.there (there slots c hc)
@@ -47,7 +47,7 @@ choose_by zero c a b d table frame slots s e comes f hc ha hb hd =
     (set (amend (named f.not_zero) f.there (there slots d hd)
     (end (arrives, refl)))))))))))
 choose_by (suc z) c a b d table frame slots s e comes f hc ha hb hd =
-    template (choose_slot c a b d) table frame _ _ s comes
+    template (choose_slot c a b d) refl table frame _ _ s comes
     (set (index f.there (there slots b hb)
     (set (index f.there (there slots a ha)
     (set (index f.there (there slots c hc)
@@ -62,7 +62,7 @@ choose_slot_law c a b d table frame slots s comes f hc ha hb hd = choose_by (sli
 pub read_part_law : ReadPartLaw freely
 unfolding ReadPartLaw
 read_part_law x f d table frame slots words s c h part hx hd hf =
-    template (read_part x f d) table frame _ _ s c
+    template (read_part x f d) refl table frame _ _ s c
     (set (index h.there (there slots x hx)
     (set (index part (there words f hf)
     (set (amend (named h.not_zero) h.there (there slots d hd)
@@ -72,10 +72,10 @@ branch_by : (z x none some table frame : ℕ) (slots : List ℕ) (s : State) →
     slice_index slots x ≡ z → ArrivesAt (branch_on_slot x none some) table frame s → map.get s.arrays frame ≡ Some slots → x < length slots →
     Freely 6 6 [] [] (λ t. Leaves (chosen_word z some none) table frame s.arrays s.out s t × (reg t 3 ≡ reg s 3)) s
 branch_by zero x none some table frame slots s e c f hx =
-    template (branch_on_slot x none some) table frame _ _ s c
+    template (branch_on_slot x none some) refl table frame _ _ s c
     (set (index f (there slots x hx) (set (set (move_not e (jump refl ((arrives, refl), refl)))))))
 branch_by (suc z) x none some table frame slots s e c f hx =
-    template (branch_on_slot x none some) table frame _ _ s c
+    template (branch_on_slot x none some) refl table frame _ _ s c
     (set (index f (there slots x hx) (set (set (move (λ h. omega (arith, h, e)) (jump refl ((arrives, refl), refl)))))))
 
 pub branch_on_slot_law : BranchOnSlotLaw freely
@@ -91,7 +91,7 @@ call_by : (n w callee size own back table caller : ℕ) (slots blocks block : Li
     (map.insert (map.insert s.arrays new (caller ∷ own ∷ back ∷ slice_index slots n ∷ slice_index slots w ∷ replicate size 0)) 0 block)
     s.out s t) s
 call_by n w callee size own back table caller slots blocks block s c f hn hw hb hc block_is =
-    template (call_block n w callee (suc (suc (suc (suc (suc size))))) own back) table caller _ _ s c
+    template (call_block n w callee (suc (suc (suc (suc (suc size))))) own back) refl table caller _ _ s c
     (set (index f (there slots n hn)
     (set (index f (there slots w hw)
     (set (index hb (there blocks callee hc)
@@ -115,7 +115,7 @@ pub take_outcome_law : TakeOutcomeLaw freely
 unfolding TakeOutcomeLaw
 take_outcome_law v x table frame slots s c f hv hx =
     let hx2 : x < length (slice_set slots v (reg s 3)) = let n = length-set slots v (reg s 3) in omega (arith, n, hx) in
-    template (take_outcome v x) table frame _ _ s c
+    template (take_outcome v x) refl table frame _ _ s c
     (set (amend (named f.not_zero) f.there (there slots v hv)
     (set (amend_last s.arrays _ refl refl (named f.not_zero) (there (slice_set slots v (reg s 3)) x hx2)
     (end (arrives, refl))))))
@@ -123,7 +123,7 @@ take_outcome_law v x table frame slots s c f hv hx =
 pub return_outcome_law : ReturnOutcomeLaw freely
 unfolding ReturnOutcomeLaw
 return_outcome_law table frame slots blocks block s c f long hb hc block_is =
-    template return_outcome table frame _ _ s c
+    template return_outcome refl table frame _ _ s c
     (set (index f (there slots 5 (omega (arith, long)))
     (set (index f (there slots 6 (omega (arith, long)))
     (set (index f (there slots 1 (omega (arith, long))) (index hb (there blocks (slice_index slots 1) hc)

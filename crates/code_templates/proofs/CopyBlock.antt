@@ -89,10 +89,10 @@ module _ (size i place table current : ℕ) (blocks code : List ℕ) (came : Sta
 
   -- what stands within a part of the template, stands within it
   part : (from n : ℕ) (but : List ℕ) (s : State) → came.finger ≤ from → from + n ≤ came.finger + 14 → map.get s.arrays 0 ≡ Some code →
-      Covers (table ∷ []) came.arrays but → StandStill (table ∷ []) came.arrays s.arrays → s.out ≡ came.out → s.rest ≡ came.rest →
+      Covers (table ∷ []) came.arrays but → StandStill (table ∷ []) came.arrays s.arrays → reg s 1 ≡ reg came 1 → s.out ≡ came.out → s.rest ≡ came.rest →
       (t : State) (k : Loads) → Quietly from n but s l t k → Along t k
-  part from n but s low high there_is covers stays out rest t k w =
-      (within_wider from n came.finger 14 (table ∷ []) but s came low high (there_is ∙ sym code_is) covers stays out rest t w.0, w.1)
+  part from n but s low high there_is covers stays table_is out rest t k w =
+      (within_wider from n came.finger 14 (table ∷ []) but s came low high (there_is ∙ sym code_is) covers stays table_is out rest t w.0, w.1)
 
   zero_there : (new finger j : ℕ) (t : State) → IsNew came.arrays new → Copies new finger j t → map.get t.arrays 0 ≡ Some code
   zero_there new finger j t is_new c =
@@ -102,6 +102,9 @@ module _ (size i place table current : ℕ) (blocks code : List ℕ) (came : Sta
   stays new finger j t is_new c =
       subst (λ m. StandStill (table ∷ []) came.arrays m) (sym c.arrays_are)
       (still_allocated (table ∷ []) came.arrays came.arrays new (blank j words) is_new (still (table ∷ []) came.arrays))
+
+  table_stays : {new finger j : ℕ} {t : State} → Copies new finger j t → reg t 1 ≡ reg came 1
+  table_stays c = ap (λ rs. slice_index rs 1) c.registers_are ∙ sym comes.table_is
 
   same_code : comes.code ≡ code
   same_code = ap (λ o. unwrap_or o []) (sym comes.code_is ∙ code_is)
@@ -121,9 +124,9 @@ module _ (size i place table current : ℕ) (blocks code : List ℕ) (came : Sta
       let e = eight came.registers 0 table current comes.eight comes.zero_is comes.table_is comes.current_is in
       let all = blank-all words ∙ ap (λ n. replicate n 0) long in
       let full : blank size words ≡ replicate size 0 = subst (λ n. blank n words ≡ replicate size 0) long all in
-      weaken_along (Quietly came.finger 3 [] came l) Along 3 _ (part came.finger 3 [] came (omega arith) (omega arith) code_is (covers_none (table ∷ []) came.arrays) (still (table ∷ []) came.arrays) refl refl) came l
+      weaken_along (Quietly came.finger 3 [] came l) Along 3 _ (part came.finger 3 [] came (omega arith) (omega arith) code_is (covers_none (table ∷ []) came.arrays) (still (table ∷ []) came.arrays) refl refl refl) came l
       (straight [] (copy_begin size) (λ t k. ((new : ℕ) × IsNew came.arrays new × Copies new loop size t) × (k ≡ l)) _ code came l comes.running code_is
-      (stands_front code came.finger (copy_begin size) (copy_word place loop done ++ copy_end i) stand) e
+      (stands_front code came.finger (copy_begin size) (copy_word place loop done ++ copy_end i) stand) refl e
       (set (alloc (λ id new. nand (end (
         (
           id,
@@ -160,9 +163,9 @@ module _ (size i place table current : ℕ) (blocks code : List ℕ) (came : Sta
         let code_there = zero_there new loop 1 t is_new c in
         let sum : (1 + 4294967295) % 2 ^ 32 ≡ 0 = refl in
         let sum2 : (place + 0) % 2 ^ 32 ≡ place + 0 = omega (arith, whole, small, lt) in
-        weaken_along (Quietly t.finger 9 (new ∷ []) t l) Along 9 _ (part t.finger 9 (new ∷ []) t (omega (arith, c.place_is)) (omega (arith, c.place_is)) code_there covered (stays new loop 1 t is_new c) c.out_is c.rest_is) t l
+        weaken_along (Quietly t.finger 9 (new ∷ []) t l) Along 9 _ (part t.finger 9 (new ∷ []) t (omega (arith, c.place_is)) (omega (arith, c.place_is)) code_there covered (stays new loop 1 t is_new c) (table_stays c) c.out_is c.rest_is) t l
         (straight (new ∷ []) (copy_word place loop done) (λ u k. After 0 u × (k ≡ l)) _ code t l c.running code_there
-        (subst (λ f. StandsAt code f (copy_word place loop done)) (sym c.place_is) (stands_front code loop (copy_word place loop done) (copy_end i) stand_loop)) c.registers_are
+        (subst (λ f. StandsAt code f (copy_word place loop done)) (sym c.place_is) (stands_front code loop (copy_word place loop done) (copy_end i) stand_loop)) refl c.registers_are
         (add_to 0 sum (set (add_to (place + 0) sum2 (index code_there (there code (place + 0) (omega (arith, whole, lt)))
         (amend_last came.arrays (blank 1 words) c.arrays_are refl (named is_new.not_zero) (get-blank 0 words (omega (arith, lt, long)))
         (set (set (move_not refl (jump refl (
@@ -182,9 +185,9 @@ module _ (size i place table current : ℕ) (blocks code : List ℕ) (came : Sta
         let code_there = zero_there new loop (suc (suc j)) t is_new c in
         let sum : (suc (suc j) + 4294967295) % 2 ^ 32 ≡ suc j = omega (arith, whole, small, lt) in
         let sum2 : (place + suc j) % 2 ^ 32 ≡ place + suc j = omega (arith, whole, small, lt) in
-        weaken_along (Quietly t.finger 9 (new ∷ []) t l) Along 9 _ (part t.finger 9 (new ∷ []) t (omega (arith, c.place_is)) (omega (arith, c.place_is)) code_there covered (stays new loop (suc (suc j)) t is_new c) c.out_is c.rest_is) t l
+        weaken_along (Quietly t.finger 9 (new ∷ []) t l) Along 9 _ (part t.finger 9 (new ∷ []) t (omega (arith, c.place_is)) (omega (arith, c.place_is)) code_there covered (stays new loop (suc (suc j)) t is_new c) (table_stays c) c.out_is c.rest_is) t l
         (straight (new ∷ []) (copy_word place loop done) (λ u k. After (suc j) u × (k ≡ l)) _ code t l c.running code_there
-        (subst (λ f. StandsAt code f (copy_word place loop done)) (sym c.place_is) (stands_front code loop (copy_word place loop done) (copy_end i) stand_loop)) c.registers_are
+        (subst (λ f. StandsAt code f (copy_word place loop done)) (sym c.place_is) (stands_front code loop (copy_word place loop done) (copy_end i) stand_loop)) refl c.registers_are
         (add_to (suc j) sum (set (add_to (place + suc j) sum2 (index code_there (there code (place + suc j) (omega (arith, whole, lt)))
         (amend_last came.arrays (blank (suc (suc j)) words) c.arrays_are refl (named is_new.not_zero) (get-blank (suc j) words (omega (arith, lt, long)))
         (set (set (move (λ h. omega (arith, h)) (jump refl (
@@ -222,9 +225,9 @@ module _ (size i place table current : ℕ) (blocks code : List ℕ) (came : Sta
       let at_end : came.finger + 3 + 9 ≡ came.finger + 12 = omega arith in
       let table_there : map.get t.arrays table ≡ Some blocks =
       ap (λ m. map.get m table) c.arrays_are ∙ get-insert_other came.arrays new words table (apart came.arrays new table blocks is_new blocks_are.there) ∙ blocks_are.there in
-      weaken_along (Quietly t.finger 2 (table ∷ []) t l) Along 2 _ (part t.finger 2 (table ∷ []) t (omega (arith, c.place_is)) (omega (arith, c.place_is)) code_there (covers_same (table ∷ []) came.arrays) (stays new done 0 t is_new c) c.out_is c.rest_is) t l
+      weaken_along (Quietly t.finger 2 (table ∷ []) t l) Along 2 _ (part t.finger 2 (table ∷ []) t (omega (arith, c.place_is)) (omega (arith, c.place_is)) code_there (covers_same (table ∷ []) came.arrays) (stays new done 0 t is_new c) (table_stays c) c.out_is c.rest_is) t l
       (straight (table ∷ []) (copy_end i) (λ u k. Done u × (k ≡ l)) _ code t l c.running code_there
-      (subst (λ f. StandsAt code f (copy_end i)) (at_end ∙ sym c.place_is) (stands_back code loop (copy_word place loop done) (copy_end i) stand_loop)) c.registers_are
+      (subst (λ f. StandsAt code f (copy_end i)) (at_end ∙ sym c.place_is) (stands_back code loop (copy_word place loop done) (copy_end i) stand_loop)) refl c.registers_are
       (set (amend (named blocks_are.not_zero) table_there (there blocks i inside)
       (end (
         (

@@ -4,7 +4,7 @@ use Rattle.std.specs.Prelude.{if◌then◌else◌, ◌==◌, bit_and, slice_get,
 use Rattle.std.specs.FinMap as map
 use Rattle.std.proofs.Math.Dec.{eqb-suc-zero}
 use Rattle.std.proofs.lemmas.Bool.{lt-ltb}
-use Rattle.std.proofs.lemmas.List.{append-nil}
+use Rattle.std.proofs.lemmas.List.{append-nil, get_or-set_other}
 use Rattle.um_word.specs.declared.op.Op.{Op}
 use Rattle.um_word.specs.declared.op.Op.TheVariants.{Move, Index, Amend, Add, Mul, Div, Nand, Halt, Alloc, Abandon, Out, Input, Load, Set}
 use Rattle.um_word.specs.Operators.{decode_word}
@@ -179,6 +179,44 @@ same_register a b c x y z e = cc
 amend_beside : (a b c : ℕ) (s : State) → reg s a ≢ 0 → IsBeside (Amend a b c) s
 amend_beside a b c s ne x y z e = subst (λ k. reg s k ≢ 0) (same_register a b c x y z e) ne
 
+-- the operator writes register 1
+abbrev writes_table : Op → Bool
+writes_table (Set a value) = a == 1
+writes_table (Move a b c) = a == 1
+writes_table (Index a b c) = a == 1
+writes_table (Add a b c) = a == 1
+writes_table (Mul a b c) = a == 1
+writes_table (Div a b c) = a == 1
+writes_table (Nand a b c) = a == 1
+writes_table (Alloc b c) = b == 1
+writes_table (Input c) = c == 1
+writes_table _ = false
+
+-- no operator but the last writes register 1
+abbrev pub keeps_table : List Op → Bool
+keeps_table [] = true
+keeps_table (op ∷ []) = true
+keeps_table (op ∷ next ∷ ops) = if writes_table op then false else keeps_table (next ∷ ops)
+
+keeps_rest : (op : Op) (ops : List Op) → keeps_table (op ∷ ops) ≡ true → keeps_table ops ≡ true
+keeps_rest op [] e = refl
+keeps_rest op (next ∷ ops) e = by (writes_table op) e
+  where
+    by : (b : Bool) → (if b then false else keeps_table (next ∷ ops)) ≡ true → keeps_table (next ∷ ops) ≡ true
+    by true h = absurd (true≢false (sym h))
+    by false h = h
+
+keeps_now : (op next : Op) (ops : List Op) → keeps_table (op ∷ next ∷ ops) ≡ true → writes_table op ≡ false
+keeps_now op next ops e = by (writes_table op) e
+  where
+    by : (b : Bool) → (if b then false else keeps_table (next ∷ ops)) ≡ true → b ≡ false
+    by true h = absurd (true≢false (sym h))
+    by false h = refl
+
+-- another register is written
+other_register : (a value : ℕ) (s : State) → (a == 1) ≡ false → reg (with_reg s a value) 1 ≡ reg s 1
+other_register a value s other = get_or-set_other s.registers a 1 value 0 (λ e. true≢false (ap (λ k. k == 1) e ∙ other))
+
 -- what a line comes to
 pub record Left (Q : Exit → State → Type 0) (next cycles : ℕ) (loads : Loads) (u : State) (l : Loads) : Type 0 where
   pub exit : Exit
@@ -192,12 +230,23 @@ module _ (place size : ℕ) (but : List ℕ) (code : List ℕ) (came : State) (l
   abbrev Along : State → Loads → Type 0
   Along = Quietly place size but came loads
 
+  -- register 1 is as it was, where operators come
+  abbrev IsTable : List Op → State → Type 0
+  IsTable [] s = Unit {0}
+  IsTable (op ∷ ops) s = reg s 1 ≡ reg came 1
+
+  next_table : (op : Op) (ops : List Op) (s t : State) → keeps_table (op ∷ ops) ≡ true → reg s 1 ≡ reg came 1 → (writes_table op ≡ false → reg t 1 ≡ reg s 1) → IsTable ops t
+  next_table op [] s t keep h same = tt
+  next_table op (next ∷ ops) s t keep h same = same (keeps_now op next ops keep) ∙ h
+
   -- the machine stands at the operators
   record Stood (ops : List Op) (s : State) (f : ℕ) : Type 0 where
     from : place ≤ f
     to : f + length ops ≤ place + size
     zero : map.get s.arrays 0 ≡ Some code
     stays : StandStill but came.arrays s.arrays
+    table : IsTable ops s
+    keep : keeps_table ops ≡ true
     out : s.out ≡ came.out
     rest : s.rest ≡ came.rest
     stand : StandsAt code f ops
@@ -212,6 +261,7 @@ module _ (place size : ℕ) (but : List ℕ) (code : List ℕ) (came : State) (l
       to = let e = h.to in omega (arith, e);
       code = h.zero ∙ sym zero_there;
       stays = h.stays;
+      table = h.table;
       out = h.out;
       rest = h.rest;
       own = record { own = subst IsOwn (sym (under op ops s f c h)) own; not_zero = λ a b c2 e. beside a b c2 (sym (under op ops s f c h) ∙ e) };
@@ -236,12 +286,15 @@ module _ (place size : ℕ) (but : List ℕ) (code : List ℕ) (came : State) (l
       (subst (λ x. Leads Along (length ops) (Left Q x (c + suc (length ops)) loads) (at_place t (f + 1) (c + 1)) loads) e
       (subst (λ x. Leads Along (length ops) (Left Q (f + 1 + length ops) x loads) (at_place t (f + 1) (c + 1)) loads) d h2)))
 
-  next : (op : Op) (ops : List Op) (s t : State) (f : ℕ) → Stood (op ∷ ops) s f → map.get t.arrays 0 ≡ map.get s.arrays 0 → StandStill but came.arrays t.arrays → t.out ≡ s.out → t.rest ≡ s.rest → Stood ops t (f + 1)
-  next op ops s t f h code stays written input = record {
+  next : (op : Op) (ops : List Op) (s t : State) (f : ℕ) → Stood (op ∷ ops) s f → map.get t.arrays 0 ≡ map.get s.arrays 0 → StandStill but came.arrays t.arrays →
+      (writes_table op ≡ false → reg t 1 ≡ reg s 1) → t.out ≡ s.out → t.rest ≡ s.rest → Stood ops t (f + 1)
+  next op ops s t f h code stays same written input = record {
     from = let e = h.from in omega (arith, e);
     to = let e = h.to in omega (arith, e);
     zero = code ∙ h.zero;
     stays = stays;
+    table = next_table op ops s t h.keep h.table same;
+    keep = keeps_rest op ops h.keep;
     out = written ∙ h.out;
     rest = input ∙ h.rest;
     stand = h.stand.1;
@@ -300,7 +353,7 @@ module _ (place size : ℕ) (but : List ℕ) (code : List ℕ) (came : State) (l
       (record { exit = Falls; state = s; holds = q; is = λ i. at_place s (e i) (d i); loaded = sym (append-nil loads) })
   line_leads (Set a value ∷ ops) s f c h q =
       row_leads (Set a value) ops s f c h tt (no_amend (Set a value) s refl) refl (λ id new.
-      (with_reg s a value, refl, line_leads ops (with_reg s a value) (f + 1) (c + 1) (next (Set a value) ops s (with_reg s a value) f h refl h.stays refl refl) q))
+      (with_reg s a value, refl, line_leads ops (with_reg s a value) (f + 1) (c + 1) (next (Set a value) ops s (with_reg s a value) f h refl h.stays (other_register a value s) refl refl) q))
   line_leads (Move a b r ∷ ops) s f c h q =
       row_leads (Move a b r) ops s f c h tt (no_amend (Move a b r) s refl) refl (λ id new. (
         at_zero (reg s r) s (with_reg s a (reg s b)),
@@ -309,6 +362,7 @@ module _ (place size : ℕ) (but : List ℕ) (code : List ℕ) (came : State) (l
             (next (Move a b r) ops s (at_zero (reg s r) s (with_reg s a (reg s b))) f h
             (kept (reg s r) a b s (λ t. map.get t.arrays 0 ≡ map.get s.arrays 0) refl refl)
             (kept (reg s r) a b s (λ t. StandStill but came.arrays t.arrays) h.stays h.stays)
+            (λ other. kept (reg s r) a b s (λ t. reg t 1 ≡ reg s 1) refl (other_register a (reg s b) s other))
             (kept (reg s r) a b s (λ t. t.out ≡ s.out) refl refl) (kept (reg s r) a b s (λ t. t.rest ≡ s.rest) refl refl)) q,
       ))
   line_leads (Index a b r ∷ ops) s f c h q =
@@ -316,7 +370,7 @@ module _ (place size : ℕ) (but : List ℕ) (code : List ℕ) (came : State) (l
         with_reg s a q.1,
         ap (λ o. with_some o IndexInactive (λ words. with_some (slice_get words (reg s r)) IndexOutside (λ word. Goes (with_reg (moved (at_place s f c)) a word)))) q.2
             ∙ ap (λ o. with_some o IndexOutside (λ word. Goes (with_reg (moved (at_place s f c)) a word))) q.3,
-        line_leads ops (with_reg s a q.1) (f + 1) (c + 1) (next (Index a b r) ops s (with_reg s a q.1) f h refl h.stays refl refl) q.4,
+        line_leads ops (with_reg s a q.1) (f + 1) (c + 1) (next (Index a b r) ops s (with_reg s a q.1) f h refl h.stays (other_register a q.1 s) refl refl) q.4,
       ))
   line_leads (Amend a b r ∷ ops) s f c h q =
       let t = with_array s (reg s a) (slice_set q.0 (reg s b) (reg s r)) in
@@ -326,14 +380,14 @@ module _ (place size : ℕ) (but : List ℕ) (code : List ℕ) (came : State) (l
             ∙ ap (λ o. with_some o AmendOutside (λ _. Goes (with_array (moved (at_place s f c)) (reg s a) (slice_set q.0 (reg s b) (reg s r))))) q.4,
         line_leads ops t (f + 1) (c + 1)
             (next (Amend a b r) ops s t f h (get-insert_other s.arrays (reg s a) (slice_set q.0 (reg s b) (reg s r)) 0 (λ e. q.2.not_zero (sym e)))
-            (still_amended but came.arrays s.arrays (reg s a) (slice_set q.0 (reg s b) (reg s r)) q.2 h.stays) refl refl) q.5,
+            (still_amended but came.arrays s.arrays (reg s a) (slice_set q.0 (reg s b) (reg s r)) q.2 h.stays) (λ other. refl) refl refl) q.5,
       ))
   line_leads (Add a b r ∷ ops) s f c h q =
       let t = with_reg s a ((reg s b + reg s r) % 2 ^ 32) in
-      row_leads (Add a b r) ops s f c h tt (no_amend (Add a b r) s refl) refl (λ id new. (t, refl, line_leads ops t (f + 1) (c + 1) (next (Add a b r) ops s t f h refl h.stays refl refl) q))
+      row_leads (Add a b r) ops s f c h tt (no_amend (Add a b r) s refl) refl (λ id new. (t, refl, line_leads ops t (f + 1) (c + 1) (next (Add a b r) ops s t f h refl h.stays (other_register a ((reg s b + reg s r) % 2 ^ 32) s) refl refl) q))
   line_leads (Nand a b r ∷ ops) s f c h q =
       let t = with_reg s a (2 ^ 32 - 1 - bit_and (reg s b) (reg s r)) in
-      row_leads (Nand a b r) ops s f c h tt (no_amend (Nand a b r) s refl) refl (λ id new. (t, refl, line_leads ops t (f + 1) (c + 1) (next (Nand a b r) ops s t f h refl h.stays refl refl) q))
+      row_leads (Nand a b r) ops s f c h tt (no_amend (Nand a b r) s refl) refl (λ id new. (t, refl, line_leads ops t (f + 1) (c + 1) (next (Nand a b r) ops s t f h refl h.stays (other_register a (2 ^ 32 - 1 - bit_and (reg s b) (reg s r)) s) refl refl) q))
   line_leads (Alloc b r ∷ ops) s f c h q =
       row_leads (Alloc b r) ops s f c h tt (no_amend (Alloc b r) s refl) refl (λ id new.
       let t = with_reg (with_array s id (replicate (reg s r) 0)) b id in
@@ -341,7 +395,7 @@ module _ (place size : ℕ) (but : List ℕ) (code : List ℕ) (came : State) (l
         t,
         refl,
         line_leads ops t (f + 1) (c + 1) (next (Alloc b r) ops s t f h (get-insert_other s.arrays id (replicate (reg s r) 0) 0 (λ e. k.not_zero (sym e)))
-            (still_allocated but came.arrays s.arrays id (replicate (reg s r) 0) k h.stays) refl refl) (q id k),
+            (still_allocated but came.arrays s.arrays id (replicate (reg s r) 0) k h.stays) (other_register b id (with_array s id (replicate (reg s r) 0))) refl refl) (q id k),
       ))
   line_leads (Out r ∷ []) s f c h q =
       last_leads (Out r) s f c h tt (no_amend (Out r) s refl) Falls (record s { out = s.out ++ reg s r ∷ [] })
@@ -358,10 +412,14 @@ module _ (place size : ℕ) (but : List ℕ) (code : List ℕ) (came : State) (l
 
 -- From a state where a line's operators stand under the finger, the machine comes to where the line leaves.
 pub leads : (but : List ℕ) (ops : List Op) (Q : Exit → State → Type 0) (code : List ℕ) (s : State) (l : Loads) →
-    s.halted ≡ false → map.get s.arrays 0 ≡ Some code → StandsAt code s.finger ops → Line but s.arrays ops Q s →
+    s.halted ≡ false → map.get s.arrays 0 ≡ Some code → StandsAt code s.finger ops → keeps_table ops ≡ true → Line but s.arrays ops Q s →
     Leads (Quietly s.finger (length ops) but s l) (length ops) (Left Q (s.finger + length ops) (s.cycles + length ops) l) s l
-leads but ops Q code s l running zero_there stand q =
+leads but ops Q code s l running zero_there stand keep q =
     subst (λ x. Leads (Quietly s.finger (length ops) but s l) (length ops) (Left Q (s.finger + length ops) (s.cycles + length ops) l) x l)
     (λ i. record s { halted = sym running i })
     (line_leads s.finger (length ops) but code s l Q zero_there ops s s.finger s.cycles
-    (record { from = omega arith; to = omega arith; zero = zero_there; stays = still but s.arrays; out = refl; rest = refl; stand = stand }) q.by)
+    (record { from = omega arith; to = omega arith; zero = zero_there; stays = still but s.arrays; table = at_first ops; keep = keep; out = refl; rest = refl; stand = stand }) q.by)
+  where
+    at_first : (ops : List Op) → IsTable s.finger (length ops) but code s l Q zero_there ops s
+    at_first [] = tt
+    at_first (op ∷ ops) = refl

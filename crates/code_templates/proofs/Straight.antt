@@ -1,5 +1,5 @@
 -- Lines from the states in which templates begin.
-use Rattle.std.proofs.Common.{◌≡◌, ◌≢◌, ℕ, ◌+◌, ◌<◌, ◌≤◌, false, List, [], ◌∷◌, ◌++◌, length, Some, None, refl, sym, ap, subst, ◌∙◌, arith}
+use Rattle.std.proofs.Common.{◌≡◌, ◌≢◌, ℕ, ◌+◌, ◌<◌, ◌≤◌, true, false, List, [], ◌∷◌, ◌++◌, length, Some, None, refl, sym, ap, subst, ◌∙◌, arith}
 use Rattle.std.specs.Prelude.{slice_get, slice_index}
 use Rattle.std.specs.FinMap as map
 use Rattle.std.proofs.lemmas.Option.{slice_get-get_or}
@@ -12,17 +12,18 @@ use Rattle.code_templates.specs.Laws.{Quietly, Leaves}
 use Rattle.code_templates.specs.inner.Freely.{Freely, ArrivesAt}
 use Rattle.um_word.proofs.Leading.{weaken}
 use Rattle.code_templates.proofs.Still.{Covers, still_join}
-use Rattle.code_templates.proofs.Lines.{Exit, exit_loads, left_by, Line, Left, leads}
+use Rattle.code_templates.proofs.Lines.{Exit, exit_loads, left_by, keeps_table, Line, Left, leads}
 
 -- what stands within a part, stands within the whole
 pub within_wider : (from n place size : ℕ) (more but : List ℕ) (s came : State) → place ≤ from → from + n ≤ place + size →
-    map.get s.arrays 0 ≡ map.get came.arrays 0 → Covers more came.arrays but → StandStill more came.arrays s.arrays → s.out ≡ came.out → s.rest ≡ came.rest →
+    map.get s.arrays 0 ≡ map.get came.arrays 0 → Covers more came.arrays but → StandStill more came.arrays s.arrays → reg s 1 ≡ reg came 1 → s.out ≡ came.out → s.rest ≡ came.rest →
     (t : State) → StandsWithin from n but s t → StandsWithin place size more came t
-within_wider from n place size more but s came low high code covers stays out rest t w = record {
+within_wider from n place size more but s came low high code covers stays table out rest t w = record {
   from = let f = w.from in omega (arith, f, low);
   to = let f = w.to in omega (arith, f, high);
   code = w.code ∙ code;
   stays = still_join more but came.arrays s.arrays t.arrays covers stays w.stays;
+  table = w.table ∙ table;
   out = w.out ∙ out;
   rest = w.rest ∙ rest;
   own = w.own;
@@ -62,25 +63,25 @@ Goal ops R s l e t = R (left_by e t (s.finger + length ops) (s.cycles + length o
 
 -- a line from a state whose registers are known
 pub straight : (but : List ℕ) (ops : List Op) (R : State → Loads → Type 0) (registers code : List ℕ) (s : State) (l : Loads) →
-    s.halted ≡ false → map.get s.arrays 0 ≡ Some code → StandsAt code s.finger ops → s.registers ≡ registers →
+    s.halted ≡ false → map.get s.arrays 0 ≡ Some code → StandsAt code s.finger ops → keeps_table ops ≡ true → s.registers ≡ registers →
     Line but s.arrays ops (Goal ops R s l) (record s { registers = registers }) → Leads (Quietly s.finger (length ops) but s l) (length ops) R s l
-straight but ops R registers code s l running code_is stand e line =
+straight but ops R registers code s l running code_is stand keep e line =
     weaken (Quietly s.finger (length ops) but s l) (length ops) (Left (Goal ops R s l) (s.finger + length ops) (s.cycles + length ops) l) R
     (λ t k left. subst (λ x. R t x) (sym left.loaded) (subst (λ x. R x (l ++ exit_loads left.exit)) (sym left.is) left.holds)) s l
-    (leads but ops (Goal ops R s l) code s l running code_is stand (subst (λ x. Line but s.arrays ops (Goal ops R s l) (record s { registers = x })) (sym e) line))
+    (leads but ops (Goal ops R s l) code s l running code_is stand keep (subst (λ x. Line but s.arrays ops (Goal ops R s l) (record s { registers = x })) (sym e) line))
 
 -- Q holds where a line leaves, which loads this
 abbrev pub Ending : List Op → Loads → (State → Type 0) → State → Exit → State → Type 0
 Ending ops loads Q s e t = Q (left_by e t (s.finger + length ops) (s.cycles + length ops)) × (exit_loads e ≡ loads)
 
 -- a line from where a template begins
-pub template : {but : List ℕ} (ops : List Op) (table current : ℕ) (loads : Loads) (Q : State → Type 0) (s : State) → ArrivesAt ops table current s →
+pub template : {but : List ℕ} (ops : List Op) → keeps_table ops ≡ true → (table current : ℕ) (loads : Loads) (Q : State → Type 0) (s : State) → ArrivesAt ops table current s →
     Line but s.arrays ops (Ending ops loads Q s) (listed s table current) →
     Freely (length ops) (length ops) but loads Q s
-template {but = but} ops table current loads Q s c line l =
+template {but = but} ops keep table current loads Q s c line l =
     weaken (Quietly s.finger (length ops) but s l) (length ops) (Left (Ending ops loads Q s) (s.finger + length ops) (s.cycles + length ops) l) (λ t k. Q t × (k ≡ l ++ loads))
     (λ t k left. (subst Q (sym left.is) left.holds.0, left.loaded ∙ ap (λ x. l ++ x) left.holds.1)) s l
-    (leads but ops (Ending ops loads Q s) c.code s l c.running c.code_is c.operators
+    (leads but ops (Ending ops loads Q s) c.code s l c.running c.code_is c.operators keep
     (subst (λ x. Line but s.arrays ops (Ending ops loads Q s) (record s { registers = x })) (sym (eight s.registers 0 table current c.eight c.zero_is c.table_is c.current_is)) line))
 
 pub there : (xs : List ℕ) (k : ℕ) → k < length xs → slice_get xs k ≡ Some (slice_index xs k)

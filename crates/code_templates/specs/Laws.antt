@@ -70,6 +70,7 @@ pub record Leaves (place table current : ℕ) (arrays : Arrays) (out : List ℕ)
 -- The machine has halted; nothing else has changed that others can see.
 pub record IsHalted (s t : State) : Type 0 where
   pub halted : t.halted ≡ true
+  pub table_is : reg t 1 ≡ reg s 1
   pub arrays_are : t.arrays ≡ s.arrays
   pub out_is : t.out ≡ s.out
   pub rest_is : t.rest ≡ s.rest

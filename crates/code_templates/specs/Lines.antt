@@ -37,13 +37,14 @@ StandStill but m n = (id : ℕ) (words : List ℕ) → (Contains but id → ⊥)
     map.get m id ≡ Some words → map.get n id ≡ Some words
 
 -- The machine stands within so many words from a place on, as it came there: array 0 is as it was,
--- and each array that stood there, but for these; nothing was written or read, and the operator
--- under the finger is the code's own.
+-- and each array that stood there, but for these, and the table in register 1; nothing was written
+-- or read, and the operator under the finger is the code's own.
 pub record StandsWithin (place size : ℕ) (but : List ℕ) (came t : State) : Type 0 where
   pub from : place ≤ t.finger
   pub to : t.finger < place + size
   pub code : map.get t.arrays 0 ≡ map.get came.arrays 0
   pub stays : StandStill but came.arrays t.arrays
+  pub table : reg t 1 ≡ reg came 1
   pub out : t.out ≡ came.out
   pub rest : t.rest ≡ came.rest
   pub own : IsOwnAt t

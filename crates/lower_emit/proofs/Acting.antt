@@ -70,7 +70,7 @@ module _ (codes : ℕ → List ℕ) (c : Prices) (plans : Plans) (modules count 
   abbrev Way : Bool → List Visit → (end : ℕ) → (ℕ → Option Value) → (ℕ → Option TextTrail) → (place : ℕ) → (ℕ → Option Value) → (ℕ → Option TextTrail) → Type 0
   Way ok visits end w k place wires stuck =
       (n : ℕ) × ((table : ℕ) (ids : List ℕ) (frame : ℕ) (s : State) (l : Loads) → HasBlocks codes table ids s.arrays → IsApart table ids frame → length ids ≡ count → (t : State) (j : Loads) → Now_ table frame s l place wires stuck t j →
-      Leads (Along c s l) n (Made ok visits end w k table frame s l j) t j)
+      Leads (Along codes ids c s l) n (Made ok visits end w k table frame s l j) t j)
 
   -- a box that calls nothing
   plain : (box : Box) (place : ℕ) (wires : ℕ → Option Value) (stuck : ℕ → Option TextTrail) → StandsAt (codes m) place (box_code y box place) → place + box_length y box ≤ width → IsPlaced y box → call_of box wires ≡ None →
@@ -85,12 +85,12 @@ module _ (codes : ℕ → List ℕ) (c : Prices) (plans : Plans) (modules count 
         let p : place + 6 * length (input_slots box) + body_length y box ≡ place2 = omega arith in
         let Q : State → Type 0 = At codes c m width y table frame s l place2 w2 k2 t j in
         let few_cycles = cycles_within y box wires in
-        follow (Along c s l) (box_cycles y box wires) rest.0 (λ u q. (q ≡ j) × Q u × Fair codes c m width y table frame s l place2 u q) (Made ok visits end w k table frame s l j) t j
-        (own_step codes c m width y table frame s l (box_cycles y box wires) place place2 Q wires w2 stuck k2 t j i (λ u q. q) (omega (arith, few_cycles)) (omega (arith, low, high))
+        follow (Along codes ids c s l) (box_cycles y box wires) rest.0 (λ u q. (q ≡ j) × Q u × Fair codes c m width y table frame s l place2 u q) (Made ok visits end w k table frame s l j) t j
+        (own_step codes c m width y table frame s l ids blocks far (box_cycles y box wires) place place2 Q wires w2 stuck k2 t j i (λ u q. q) (omega (arith, few_cycles)) (omega (arith, low, high))
         (subst (λ q. Stretch (range codes c m width y table frame s l t j) (box_cycles y box wires) (At codes c m width y table frame s l q w2 k2 t j) t) p
         (box_law (range codes c m width y table frame s l t j) table frame (codes m) y t known box place wires stuck t i.at stand (omega arith) (omega (arith, high)) placed none)))
         (λ u q h.
-        subst (λ x. Leads (Along c s l) rest.0 (Made ok visits end w k table frame s l x) u q) h.0
+        subst (λ x. Leads (Along codes ids c s l) rest.0 (Made ok visits end w k table frame s l x) u q) h.0
         (rest.1 table ids frame s l blocks far count_is u q (moved_on codes c m width y table frame s l place place2 wires w2 stuck k2 t j i u q h.1 h.2))),
   )
 
@@ -116,14 +116,14 @@ module _ (codes : ℕ → List ℕ) (c : Prices) (plans : Plans) (modules count 
           (stands_back (codes m) place (guards_code inputs place (place + 6 * length inputs + 49)) code_back stand)
 
       -- the guards pass
-      guards : (table frame : ℕ) (s : State) (l : Loads) (t : State) (j : Loads) → Now_ table frame s l place wires stuck t j →
-          Leads (Along c s l) (guard_cycles wires inputs) (λ u q. (q ≡ j) × Now_ table frame s l body wires stuck u q) t j
-      guards table frame s l t j i =
+      guards : (table : ℕ) (ids : List ℕ) (frame : ℕ) (s : State) (l : Loads) → HasBlocks codes table ids s.arrays → IsApart table ids frame → (t : State) (j : Loads) → Now_ table frame s l place wires stuck t j →
+          Leads (Along codes ids c s l) (guard_cycles wires inputs) (λ u q. (q ≡ j) × Now_ table frame s l body wires stuck u q) t j
+      guards table ids frame s l blocks far t j i =
           let Q : State → Type 0 = At codes c m width y table frame s l body wires stuck t j in
           let n = guards_cycles wires inputs in
-          weaken (Along c s l) (guard_cycles wires inputs) (λ u q. (q ≡ j) × Q u × Fair codes c m width y table frame s l body u q) (λ u q. (q ≡ j) × Now_ table frame s l body wires stuck u q)
+          weaken (Along codes ids c s l) (guard_cycles wires inputs) (λ u q. (q ≡ j) × Q u × Fair codes c m width y table frame s l body u q) (λ u q. (q ≡ j) × Now_ table frame s l body wires stuck u q)
           (λ u q h. (h.0, moved_on codes c m width y table frame s l place body wires wires stuck stuck t j i u q h.1 h.2)) t j
-          (own_step codes c m width y table frame s l (guard_cycles wires inputs) place body Q wires wires stuck stuck t j i (λ u q. q) (omega (arith, n)) (omega (arith, low, high))
+          (own_step codes c m width y table frame s l ids blocks far (guard_cycles wires inputs) place body Q wires wires stuck stuck t j i (λ u q. q) (omega (arith, n)) (omega (arith, low, high))
           (subst (λ b. Stretch (range codes c m width y table frame s l t j) (guard_cycles wires inputs) (At codes c m width y table frame s l (if b then body else body + 49) wires stuck t j) t) on
           (guards_law (range codes c m width y table frame s l t j) table frame (codes m) y stuck t wires inputs place (body + 49) t i.at
           (stands_front (codes m) place (guards_code inputs place (body + 49)) code_back stand) (omega arith) (omega (arith, high)) are (omega arith))))
@@ -132,17 +132,17 @@ module _ (codes : ℕ → List ℕ) (c : Prices) (plans : Plans) (modules count 
       calls : (came : Option Ending) (visits : List Visit) (law : CallLaw codes c plans count callee asked came visits) (table : ℕ) (ids : List ℕ) (frame : ℕ) (s : State) (l : Loads) → HasBlocks codes table ids s.arrays → IsApart table ids frame → length ids ≡ count →
           (back_inside : m < count) (R : State → Loads → Type 0) (n : ℕ) (t : State) (j : Loads) (i : Now_ table frame s l body wires stuck t j) →
           ((u : State) (q : Loads) (called : Called codes table ids callee size (record { caller = frame; block = m; offset = body + 21 }) asked t u) → q ≡ j ++ entry_of (codes callee) ∷ [] → spent u ≤ spent t + (21 + c.frame) →
-          (v : State) (k : Loads) → Ran codes c table (record { caller = frame; block = m; offset = body + 21 }) came visits called.frame u q v k → Leads (Along c s l) n R v k) →
-          Leads (Along c s l) (21 + (law.0 + n)) R t j
+          (v : State) (k : Loads) → Ran codes c table (record { caller = frame; block = m; offset = body + 21 }) came visits called.frame u q v k → Leads (Along codes ids c s l) n R v k) →
+          Leads (Along codes ids c s l) (21 + (law.0 + n)) R t j
       calls came visits law table ids frame s l blocks far count_is back_inside R n t j i go =
           let back : Return = record { caller = frame; block = m; offset = body + 21 } in
-          follow (Along c s l) 21 (law.0 + n) (λ u q. (Called codes table ids callee size back asked t u × (q ≡ j ++ entry_of (codes callee) ∷ [])) × (spent u ≤ spent t + (21 + c.frame))) R t j
+          follow (Along codes ids c s l) 21 (law.0 + n) (λ u q. (Called codes table ids callee size back asked t u × (q ≡ j ++ entry_of (codes callee) ∷ [])) × (spent u ≤ spent t + (21 + c.frame))) R t j
           (call_step codes c m width y table frame s l ids blocks far body wires stuck t j i north west callee size is_north is_west
           (stands_front (codes m) body (call_block (input_slot north) (input_slot west) callee size m (body + 21)) (taken_code y side number text) body_stands) can.frame room (omega (arith, count_is, inside, few)) framed (omega (arith, low, high)))
           (λ u q h.
           let called = h.0.0 in
-          follow (Along c s l) law.0 n (Ran codes c table back came visits called.frame u q) R u q
-          (weaken_along (Along c u q) (Along c s l) law.0 (Ran codes c table back came visits called.frame u q)
+          follow (Along codes ids c s l) law.0 n (Ran codes c table back came visits called.frame u q) R u q
+          (weaken_along (Along codes ids c u q) (Along codes ids c s l) law.0 (Ran codes c table back came visits called.frame u q)
           (within_call codes c m width y table frame s l ids blocks far body wires stuck t j i callee size asked u q called h.0.1 h.1 (omega (arith, low, high))) u q
           (law.1 table ids back called.frame u q (called.entered (plans callee).north (plans callee).west) count_is back_inside)) (go u q called h.0.1 h.1))
 
@@ -153,18 +153,18 @@ module _ (codes : ℕ → List ℕ) (c : Prices) (plans : Plans) (modules count 
       enabled here None is (inl h) ok visits end w k rest = (
         0,
         λ table ids frame s l blocks far count_is t j i.
-            no_step (Along c s l) (Made false (trips callee asked ++ []) end w k table frame s l j) t j
+            no_step (Along codes ids c s l) (Made false (trips callee asked ++ []) end w k table frame s l j) t j
             (subst (λ x. seen j ≡ seen j ++ map (load_of codes) (x ++ [])) (sym h.1) (sym (append-nil (seen j))), tt),
       )
       enabled here None is (inr h) ok visits end w k rest = (
         guard_cycles wires inputs + (21 + (h.2.0 + 0)),
         λ table ids frame s l blocks far count_is t j i.
             let R = Made false (trips callee asked ++ []) end w k table frame s l j in
-            follow (Along c s l) (guard_cycles wires inputs) (21 + (h.2.0 + 0)) (λ u q. (q ≡ j) × Now_ table frame s l body wires stuck u q) R t j (guards table frame s l t j i)
+            follow (Along codes ids c s l) (guard_cycles wires inputs) (21 + (h.2.0 + 0)) (λ u q. (q ≡ j) × Now_ table frame s l body wires stuck u q) R t j (guards table ids frame s l blocks far t j i)
             (λ u q g.
             calls None h.0 h.2 table ids frame s l blocks far count_is here R 0 u q g.1
             (λ v k called loads cost x k2 ran.
-            no_step (Along c s l) R x k2
+            no_step (Along codes ids c s l) R x k2
             (let to : seen k ≡ seen j ++ (codes callee, true) ∷ [] = ap seen loads ∙ seen_more q (entry_of (codes callee)) ∙ ap (λ z. seen z ++ (codes callee, true) ∷ []) g.0 in
             let all : seen k2 ≡ seen j ++ map (load_of codes) (Calls callee ∷ h.0) = ran ∙ ap (λ z. z ++ map (load_of codes) h.0) to ∙ append_assoc (seen j) ((codes callee, true) ∷ []) (map (load_of codes) h.0) in
             let same : Calls callee ∷ h.0 ≡ trips callee asked ++ [] = sym h.1 ∙ sym (append-nil (trips callee asked)) in
@@ -177,7 +177,7 @@ module _ (codes : ℕ → List ℕ) (c : Prices) (plans : Plans) (modules count 
             let R = Made ok (trips callee asked ++ Returns m ∷ visits) end w k table frame s l j in
             let w2 = carrying side.wire came.value wires in
             let k2 = marking number (by_caller text came.mark) stuck in
-            follow (Along c s l) (guard_cycles wires inputs) (21 + (h.2.0 + (28 + rest.0))) (λ u q. (q ≡ j) × Now_ table frame s l body wires stuck u q) R t j (guards table frame s l t j i)
+            follow (Along codes ids c s l) (guard_cycles wires inputs) (21 + (h.2.0 + (28 + rest.0))) (λ u q. (q ≡ j) × Now_ table frame s l body wires stuck u q) R t j (guards table ids frame s l blocks far t j i)
             (λ u q g.
             calls (Some came) h.0 h.2 table ids frame s l blocks far count_is here R (28 + rest.0) u q g.1
             (λ v p called loads cost x z ran.
@@ -191,13 +191,13 @@ module _ (codes : ℕ → List ℕ) (c : Prices) (plans : Plans) (modules count 
             ap (λ o. o ++ map (load_of codes) visits) back ∙ whole_trip (seen j) (codes callee, true) (map (load_of codes) h.0) (codes m, false) (map (load_of codes) visits)
             ∙ ap (λ o. seen j ++ ((codes callee, true) ∷ o)) (sym (map-append (load_of codes) h.0 (Returns m ∷ visits)))
             ∙ ap (λ o. seen j ++ map (load_of codes) (o ++ Returns m ∷ visits)) (sym h.1) in
-            follow (Along c s l) 28 rest.0 (λ a b. (b ≡ z) × Q a × Fair codes c m width y table frame s l (body + 21 + 28) a b) R x z
-            (own_step codes c m width y table frame s l 28 (body + 21) (body + 21 + 28) Q wires w2 stuck k2 x z now (λ a b. b) (omega arith) (omega (arith, low, high))
+            follow (Along codes ids c s l) 28 rest.0 (λ a b. (b ≡ z) × Q a × Fair codes c m width y table frame s l (body + 21 + 28) a b) R x z
+            (own_step codes c m width y table frame s l ids blocks far 28 (body + 21) (body + 21 + 28) Q wires w2 stuck k2 x z now (λ a b. b) (omega arith) (omega (arith, low, high))
             (taken_law (range codes c m width y table frame s l x z) table frame (codes m) y x side size number text (body + 21) wires stuck came x now.at
             (stands_back (codes m) body (call_block (input_slot north) (input_slot west) callee size m (body + 21)) (taken_code y side number text) body_stands)
             (omega arith) (omega (arith, high)) can ran.returned.value_is ran.returned.mark_is))
             (λ a b f.
-            weaken (Along c s l) rest.0 (Made ok visits end w k table frame s l b) R
+            weaken (Along codes ids c s l) rest.0 (Made ok visits end w k table frame s l b) R
             (λ d o made. (made.0 ∙ ap (λ z. seen z ++ map (load_of codes) visits) f.0 ∙ whole, made.1)) a b
             (rest.1 table ids frame s l blocks far count_is a b
             (subst (λ q. Now_ table frame s l q w2 k2 a b) e
@@ -238,7 +238,7 @@ module _ (codes : ℕ → List ℕ) (c : Prices) (plans : Plans) (modules count 
     0,
     λ table ids frame s l blocks far count_is t j i.
         let e : place ≡ place + 0 = omega arith in
-        no_step (Along c s l) (Made true [] (place + 0) wires stuck table frame s l j) t j (sym (append-nil (seen j)), subst (λ p. Now_ table frame s l p wires stuck t j) e i),
+        no_step (Along codes ids c s l) (Made true [] (place + 0) wires stuck table frame s l j) t j (sym (append-nil (seen j)), subst (λ p. Now_ table frame s l p wires stuck t j) e i),
   )
   boxes_way here framed (box ∷ boxes) place wires stuck stand high placed are =
       let n = box_length y box in
@@ -329,6 +329,7 @@ module _ (codes : ℕ → List ℕ) (c : Prices) (plans : Plans) (modules count 
             current_is = h.current_is;
             code_is = h.code_is;
             came_with = h.code_is;
+            came_table = h.table_is;
             framed = refl;
             still = λ j words out e. e;
             frame_is = h.frame_is;
@@ -359,15 +360,15 @@ module _ (codes : ℕ → List ℕ) (c : Prices) (plans : Plans) (modules count 
 
   -- the entries go to their wires
   entered : (table : ℕ) (ids : List ℕ) (back : Return) (frame : ℕ) (s : State) (l : Loads) → Entered codes table ids m y.size (plans m).north (plans m).west back a frame s →
-      Leads (Along c s l) 18 (λ u q. (q ≡ l) × Now codes c m width y table frame s l 18 wires0 (λ b. None) u q) s l
+      Leads (Along codes ids c s l) 18 (λ u q. (q ≡ l) × Now codes c m width y table frame s l 18 wires0 (λ b. None) u q) s l
   entered table ids back frame s l h =
       let now = begins table ids back frame s l h in
       let Q : State → Type 0 = At codes c m width y table frame s l 18 wires0 (λ b. None) s l in
       let priced = is.priced in
       let size = is.good.size in
-      weaken (Along c s l) 18 (λ u q. (q ≡ l) × Q u × Fair codes c m width y table frame s l 18 u q) (λ u q. (q ≡ l) × Now codes c m width y table frame s l 18 wires0 (λ b. None) u q)
+      weaken (Along codes ids c s l) 18 (λ u q. (q ≡ l) × Q u × Fair codes c m width y table frame s l 18 u q) (λ u q. (q ≡ l) × Now codes c m width y table frame s l 18 wires0 (λ b. None) u q)
       (λ u q g. (g.0, moved_on codes c m width y table frame s l 0 18 (λ k. None) wires0 (λ b. None) (λ b. None) s l now u q g.1 g.2)) s l
-      (own_step codes c m width y table frame s l 18 0 18 Q (λ k. None) wires0 (λ b. None) (λ b. None) s l now (λ u q. q) (omega arith) (omega (arith, priced))
+      (own_step codes c m width y table frame s l ids h.blocks h.apart 18 0 18 Q (λ k. None) wires0 (λ b. None) (λ b. None) s l now (λ u q. q) (omega arith) (omega (arith, priced))
       (entries_law (range codes c m width y table frame s l s l) table frame (codes m) (plans m) a.north a.west 0 s s now.at
       (subst (λ xs. EntryCarries s.arrays (slice_index xs 3) (plans m).north a.north) (sym (same_slots table ids back frame s l h)) h.north_is)
       (subst (λ xs. EntryCarries s.arrays (slice_index xs 4) (plans m).west a.west) (sym (same_slots table ids back frame s l h)) h.west_is)
@@ -380,7 +381,7 @@ module _ (codes : ℕ → List ℕ) (c : Prices) (plans : Plans) (modules count 
   -- the outcome goes to its slots, and the block returns
   ends : (table : ℕ) (ids : List ℕ) (back : Return) (frame : ℕ) (s : State) (l : Loads) → Entered codes table ids m y.size (plans m).north (plans m).west back a frame s → length ids ≡ count → back.block < count → (u : State) (q : Loads) →
       Now codes c m width y table frame s l boxes_end (last_wires known (plans m) a.north a.west) (last_marks known (plans m) a.north a.west) u q → seen q ≡ seen l ++ map (load_of codes) visits →
-      Leads (Along c s l) (end_cycles + 11) (Backed codes c table back (block_came known (plans m) a) visits frame s l) u q
+      Leads (Along codes ids c s l) (end_cycles + 11) (Backed codes c table back (block_came known (plans m) a) visits frame s l) u q
   ends table ids back frame s l h count_is to u q now loads =
       let w = last_wires known (plans m) a.north a.west in
       let k = last_marks known (plans m) a.north a.west in
@@ -390,12 +391,12 @@ module _ (codes : ℕ → List ℕ) (c : Prices) (plans : Plans) (modules count 
       let size = is.good.size in
       let e : boxes_end + 63 + 18 * length (plans m).exits + 9 * y.boxes ≡ L = omega arith in
       let Q : State → Type 0 = λ x. Ended (range codes c m width y table frame s l u q) table frame (codes m) y L w k came.value came.mark u x in
-      follow (Along c s l) end_cycles 11 (λ x z. (z ≡ q) × Q x × Fair codes c m width y table frame s l L x z) (Backed codes c table back came visits frame s l) u q
-      (own_step codes c m width y table frame s l end_cycles boxes_end L Q w w k k u q now (λ x g. g.at) (omega arith) (omega (arith, priced))
+      follow (Along codes ids c s l) end_cycles 11 (λ x z. (z ≡ q) × Q x × Fair codes c m width y table frame s l L x z) (Backed codes c table back came visits frame s l) u q
+      (own_step codes c m width y table frame s l ids h.blocks h.apart end_cycles boxes_end L Q w w k k u q now (λ x g. g.at) (omega arith) (omega (arith, priced))
       (subst (λ z. Stretch (range codes c m width y table frame s l u q) end_cycles (λ x. Ended (range codes c m width y table frame s l u q) table frame (codes m) y z w k came.value came.mark u x) u) e
       (end_law (range codes c m width y table frame s l u q) table frame (codes m) y u w k size (plans m).exits (plans m).none (plans m).two y.boxes boxes_end u now.at end_stands (omega arith) (omega arith) is.good.are_exits (omega arith))))
       (λ x z g.
-      weaken (Along c s l) 11
+      weaken (Along codes ids c s l) 11
       (λ v j. Returned codes table back came frame s v × (j ≡ z ++ load_at (codes back.block) back.offset ∷ []) × (spent v + c.frame + due c.price l ≤ spent s + due c.price j + c.price))
       (Backed codes c table back came visits frame s l)
       (λ v j r. record {
@@ -416,8 +417,8 @@ module _ (codes : ℕ → List ℕ) (c : Prices) (plans : Plans) (modules count 
     λ table ids back frame s l h count_is to.
         let came = block_came known (plans m) a in
         let R = Backed codes c table back came visits frame s l in
-        follow (Along c s l) 18 (way.0 + (end_cycles + 11)) (λ u q. (q ≡ l) × Now codes c m width y table frame s l 18 wires0 (λ b. None) u q) R s l (entered table ids back frame s l h) (λ u q g.
-        follow (Along c s l) way.0 (end_cycles + 11)
+        follow (Along codes ids c s l) 18 (way.0 + (end_cycles + 11)) (λ u q. (q ≡ l) × Now codes c m width y table frame s l 18 wires0 (λ b. None) u q) R s l (entered table ids back frame s l h) (λ u q g.
+        follow (Along codes ids c s l) way.0 (end_cycles + 11)
         (λ x z. (seen z ≡ seen q ++ map (load_of codes) visits) × Now codes c m width y table frame s l boxes_end (last_wires known (plans m) a.north a.west) (last_marks known (plans m) a.north a.west) x z) R u q
         (way.1 table ids frame s l h.blocks h.apart count_is u q g.1) (λ x z f.
         ends table ids back frame s l h count_is to x z f.1 (f.0 ∙ ap (λ o. seen o ++ map (load_of codes) visits) g.0))),
@@ -426,8 +427,8 @@ module _ (codes : ℕ → List ℕ) (c : Prices) (plans : Plans) (modules count 
     18 + way.0,
     λ table ids back frame s l h count_is to.
         let R : State → Loads → Type 0 = λ u q. seen q ≡ seen l ++ map (load_of codes) visits in
-        follow (Along c s l) 18 way.0 (λ u q. (q ≡ l) × Now codes c m width y table frame s l 18 wires0 (λ b. None) u q) R s l (entered table ids back frame s l h) (λ u q g.
-        weaken (Along c s l) way.0 (λ x z. (seen z ≡ seen q ++ map (load_of codes) visits) × Unit {0}) R (λ x z f. f.0 ∙ ap (λ o. seen o ++ map (load_of codes) visits) g.0) u q
+        follow (Along codes ids c s l) 18 way.0 (λ u q. (q ≡ l) × Now codes c m width y table frame s l 18 wires0 (λ b. None) u q) R s l (entered table ids back frame s l h) (λ u q g.
+        weaken (Along codes ids c s l) way.0 (λ x z. (seen z ≡ seen q ++ map (load_of codes) visits) × Unit {0}) R (λ x z f. f.0 ∙ ap (λ o. seen o ++ map (load_of codes) visits) g.0) u q
         (way.1 table ids frame s l h.blocks h.apart count_is u q g.1)),
   )
 

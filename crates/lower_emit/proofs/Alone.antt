@@ -24,6 +24,7 @@ use Rattle.lower_emit.specs.Entered.{HasBlocks, IsApart, Return}
 use Rattle.lower_emit.specs.Surroundings.{Surroundings, Stay, IsAnswered, IsOwnMoment, back_to, ReturnsNow}
 use Rattle.lower_emit.proofs.Boxes.{carries_grow, marked_grow}
 use Rattle.lower_emit.proofs.Stretching.{comes}
+use Rattle.lower_emit.proofs.Calling.{only_one, no_other}
 use Rattle.lower_emit.proofs.Using.{keeps_all, blocks_stay, Called, call_law}
 use Rattle.lower_emit.proofs.Staying.{carries_stay, marked_stay, all_blocks_stay, kept_stay}
 
@@ -78,6 +79,7 @@ module _ (w : Surroundings) (frames : List ℕ) (m width : ℕ) (y : Layout) (ro
               current_is = a.here.current_is;
               code_is = a.here.code_is;
               came_with = a.here.code_is;
+              came_table = a.here.table_is;
               framed = refl;
               still = λ j words out e. e;
               frame_is = a.here.frame_is;
@@ -111,18 +113,11 @@ module _ (w : Surroundings) (frames : List ℕ) (m width : ℕ) (y : Layout) (ro
           stay = kept_stay w frames frame far alone_frames s.arrays x.arrays i.was i.was_there i.was_long (λ j ws z ne e. q.0.stays j ws (λ c. ne (only j c)) (keeps j ws z ne e));
         }) u [] h
 
-    only_frame : (k : ℕ) → Contains (frame ∷ []) k → k ≡ frame
-    only_frame k (zero, lt, is) = sym is
-    only_frame k (suc j, lt, is) = absurd (omega (arith, lt))
-
-    no_other : (k : ℕ) → Contains [] k → k ≡ frame
-    no_other k c = absurd (omega (arith, c.1))
-
     -- a stretch of the block's own
     pub own_stretch : (n : ℕ) (Q : State → Type 0) → Stretch (range t) n Q t → Leads (Moment s) n (λ u k. (k ≡ []) × Q u) t []
     own_stretch n Q h =
         weaken (Moment s) n (λ u k. Q u × (k ≡ [])) (λ u k. (k ≡ []) × Q u) (λ u k q. (q.1, q.0)) t []
-        (quiet_step n 0 width (frame ∷ []) (λ u k. Q u × (k ≡ [])) t only_frame i.keeps i.at.here.code_is i.out_is h)
+        (quiet_step n 0 width (frame ∷ []) (λ u k. Q u × (k ≡ [])) t (only_one frame) i.keeps i.at.here.code_is i.out_is h)
 
     -- and one to a place
     pub own_step : (n place2 : ℕ) (w2 : ℕ → Option Value) (k2 : ℕ → Option TextTrail) → Stretch (range t) n (Here place2 w2 k2 t) t → Leads (Moment s) n (λ u k. (k ≡ []) × Now place2 w2 k2 s u) t []
@@ -139,7 +134,7 @@ module _ (w : Surroundings) (frames : List ℕ) (m width : ℕ) (y : Layout) (ro
     call_step north west callee size is_north is_west stand five inside =
         let C : State → Type 0 = λ u. Called w.codes w.table w.ids callee size (back_to m frame (place + 21)) (record { north = exit_value wires north; west = exit_value wires west }) t u in
         weaken (Moment s) 21 (λ u k. C u × (k ≡ [] ++ entry_of (w.codes callee) ∷ [])) (λ u k. C u) (λ u k q. q.0) t []
-        (quiet_step 21 t.finger 21 [] (λ u k. C u × (k ≡ [] ++ entry_of (w.codes callee) ∷ [])) t no_other i.keeps i.at.here.code_is i.out_is
+        (quiet_step 21 t.finger 21 [] (λ u k. C u × (k ≡ [] ++ entry_of (w.codes callee) ∷ [])) t (no_other frame) i.keeps i.at.here.code_is i.out_is
         (call_law w.codes w.table w.ids (range t) frame m y t wires stuck place t i.at north west callee size is_north is_west stand five room inside i.blocks []))
 
     module _ (callee size : ℕ) (inputs : Inputs) (u : State) (called : Called w.codes w.table w.ids callee size (back_to m frame (place + 21)) inputs t u) where
@@ -174,6 +169,7 @@ module _ (w : Surroundings) (frames : List ℕ) (m width : ℕ) (y : Layout) (ro
                 current_is = ans.current_is;
                 code_is = ans.code_is;
                 came_with = ans.code_is;
+                came_table = ans.table_is;
                 framed = refl;
                 still = λ j words out e. e;
                 frame_is = record { not_zero = here.not_zero; there = there };
@@ -241,6 +237,6 @@ module _ (w : Surroundings) (frames : List ℕ) (m width : ℕ) (y : Layout) (ro
           mark_is = mark;
           out_is = out;
         }) u []
-        (quiet_step 11 u.finger 11 [] _ u no_other now.keeps a.here.code_is now.out_is
+        (quiet_step 11 u.finger 11 [] _ u (no_other frame) now.keeps a.here.code_is now.out_is
         (return_outcome_law w.table frame slots w.ids (w.codes back.block) u (comes (range t) w.table frame (w.codes m) place2 slots u return_outcome a.here stand) there (omega (arith, n, room)) now.blocks.there
         (subst (λ x. x < length w.ids) (sym c1) inside) (subst (λ x. HasWords u.arrays (slice_index w.ids x) (w.codes back.block)) (sym c1) block) []))

@@ -123,6 +123,7 @@ module _ (r : Range) (table frame : ℕ) (code : List ℕ) (y : Layout) (stuck :
           current_is = h.0.current_is;
           code_is = ap (λ m. map.get m 0) h.0.arrays_are ∙ a.here.code_is;
           came_with = a.here.came_with;
+          came_table = a.here.came_table;
           framed = a.here.framed;
           still = subst (λ m. StandStill (frame ∷ []) r.came.arrays m) (sym h.0.arrays_are) a.here.still;
           frame_is = subst (λ m. HasWords m frame a.slots) (sym h.0.arrays_are) a.here.frame_is;
@@ -183,6 +184,7 @@ module _ (r : Range) (table frame : ℕ) (code : List ℕ) (y : Layout) (stuck :
           current_is = h.current_is;
           code_is = other 0 (λ e. f.not_zero (sym e)) ∙ a.here.code_is;
           came_with = a.here.came_with;
+          came_table = a.here.came_table;
           framed = a.here.framed;
           still = still_on frame r.came.arrays t.arrays u.arrays a.here.still keeps (other 0 (λ e. f.not_zero (sym e)));
           frame_is = record { not_zero = f.not_zero; there = ap (λ m. map.get m frame) is ∙ get-insert_same t.arrays frame (slice_set a.slots d (slice_index a.slots x)) };

@@ -80,6 +80,7 @@ module _ (r : Range) (table frame : ℕ) (code : List ℕ) where
           current_is = l.current_is;
           code_is = other 0 (λ e. f.not_zero (sym e)) (λ e. is_new.not_zero (sym e)) ∙ here.code_is;
           came_with = here.came_with;
+          came_table = here.came_table;
           framed = here.framed;
           still = still_on frame r.came.arrays s.arrays t.arrays here.still (λ k ws not_zero not_frame e. other k not_frame (apart s.arrays new k ws is_new e) ∙ e) (other 0 (λ e. f.not_zero (sym e)) (λ e. is_new.not_zero (sym e)));
           frame_is = record {

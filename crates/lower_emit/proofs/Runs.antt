@@ -118,6 +118,7 @@ module _ (P : Program) (answer : Answers) (a : Inputs) (w : Surroundings) (frame
               current_is = entered.current_is;
               code_is = entered.code_is;
               came_with = entered.code_is;
+              came_table = entered.table_is;
               framed = refl;
               still = λ j words out e. e;
               frame_is = entered.frame_is;

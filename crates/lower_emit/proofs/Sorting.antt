@@ -105,6 +105,7 @@ module _ (r : Range) (table frame : ℕ) (code : List ℕ) (y : Layout) (s : Sta
           current_is = h.current_is;
           code_is = other 0 (λ e. a.here.frame_is.not_zero (sym e)) ∙ a.here.code_is;
           came_with = a.here.came_with;
+          came_table = a.here.came_table;
           framed = a.here.framed;
           still = still_on frame r.came.arrays t.arrays u.arrays a.here.still keeps (other 0 (λ e. a.here.frame_is.not_zero (sym e)));
           frame_is = record { not_zero = a.here.frame_is.not_zero; there = ap (λ m. map.get m frame) h.arrays_are ∙ get-insert_same t.arrays frame (slice_set a.slots d x) };

@@ -44,7 +44,7 @@ module _ (r : Range) where
         (λ t k w. (
           subst (λ f. StandsWithin r.place r.size (f ∷ []) r.came t) (sym here.framed)
               (within_wider s.finger size r.place r.size (frame ∷ []) but s r.came (omega (arith, here.finger, low)) (omega (arith, here.finger, high))
-              (here.code_is ∙ sym here.came_with) covers here.still here.out_is here.rest_is t w.0),
+              (here.code_is ∙ sym here.came_with) covers here.still (here.table_is ∙ sym here.came_table) here.out_is here.rest_is t w.0),
           w.1,
         )) s r.loads
         (weaken (Quietly s.finger size but s r.loads) cycles (λ t k. Q t × (k ≡ r.loads ++ [])) (λ t k. Q t × (k ≡ r.loads)) (λ t k q. (q.0, q.1 ∙ append-nil r.loads)) s r.loads (h r.loads))

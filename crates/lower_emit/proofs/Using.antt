@@ -25,7 +25,7 @@ use Rattle.lower_emit.specs.inner.Sorts.{marking}
 use Rattle.lower_emit.specs.inner.Ends.{exit_value}
 use Rattle.lower_emit.specs.inner.Uses.{by_caller, CanUse, Returned}
 use Rattle.lower_emit.specs.Boxes.{taken_code}
-use Rattle.lower_emit.specs.Entered.{HasBlocks, IsApart, Return, Entered}
+use Rattle.lower_emit.specs.Entered.{HasBlocks, BlocksStand, IsApart, Return, Entered}
 use Rattle.lower_emit.proofs.Stretching.{chain, becomes, template_stretch, comes, still_on}
 use Rattle.lower_emit.proofs.Builds.{one_cell}
 use Rattle.lower_emit.proofs.Boxes.{same_holds, side_holds, carries_grow, marked_grow, chosen_some, side_high, for_entry}
@@ -44,6 +44,10 @@ module _ (codes : ℕ → List ℕ) (table : ℕ) (ids : List ℕ) where
     there = keeps table ids b.not_zero (λ e. far.not_table (sym e)) b.there;
     each = λ i lt. let h = b.each i lt in record { not_zero = h.not_zero; there = keeps (slice_index ids i) (codes i) h.not_zero (λ e. far.not_block i lt (sym e)) h.there };
   }
+
+  -- where register 1 is as it was too, they stand
+  pub blocks_stand : (frame : ℕ) (s t : State) → IsApart table ids frame → reg s 1 ≡ table → reg t 1 ≡ reg s 1 → KeepsArrays frame s.arrays t.arrays → HasBlocks codes table ids s.arrays → BlocksStand codes ids t
+  blocks_stand frame s t far named same keeps b = subst (λ k. HasBlocks codes k ids t.arrays) (sym (same ∙ named)) (blocks_stay frame s.arrays t.arrays far keeps b)
 
   pub apart_new : (m : Arrays) (new : ℕ) → IsNew m new → HasBlocks codes table ids m → IsApart table ids new
   apart_new m new is_new b = record {
@@ -153,6 +157,7 @@ module _ (codes : ℕ → List ℕ) (table : ℕ) (ids : List ℕ) where
               current_is = ret.current_is ∙ frame_is;
               code_is = code_is;
               came_with = code_is;
+              came_table = ret.table_is;
               framed = refl;
               still = λ j words out e. e;
               frame_is = record { not_zero = a.here.frame_is.not_zero; there = there };
@@ -234,6 +239,7 @@ module _ (r : Range) (table frame : ℕ) (code : List ℕ) (y : Layout) (s : Sta
             current_is = h.current_is;
             code_is = other 0 (λ e. f.not_zero (sym e)) ∙ a.here.code_is;
             came_with = a.here.came_with;
+            came_table = a.here.came_table;
             framed = a.here.framed;
             still = still_on frame r.came.arrays t.arrays u.arrays a.here.still keeps (other 0 (λ e. f.not_zero (sym e)));
             frame_is = record { not_zero = f.not_zero; there = ap (λ m. map.get m frame) h.arrays_are ∙ get-insert_same t.arrays frame slots2 };

@@ -19,6 +19,10 @@ pub record HasBlocks (codes : ℕ → List ℕ) (table : ℕ) (ids : List ℕ) (
   pub there : map.get m table ≡ Some ids
   pub each : (i : ℕ) → i < length ids → HasWords m (slice_index ids i) (codes i)
 
+-- register 1 names the table of blocks
+abbrev pub BlocksStand : (codes : ℕ → List ℕ) (ids : List ℕ) → State → Type 0
+BlocksStand codes ids t = HasBlocks codes (reg t 1) ids t.arrays
+
 -- the array is neither the table nor a block
 pub record IsApart (table : ℕ) (ids : List ℕ) (frame : ℕ) : Type 0 where
   pub not_table : frame ≢ table

@@ -21,11 +21,12 @@ use Rattle.code_templates.proofs.Staying.{last_length, same_long}
 use Rattle.code_templates.proofs.Counts.{IsCount, next_counts}
 use Rattle.lower_plan.specs.declared.plan.Plan.{Plan}
 use Rattle.lower_plan.specs.Plans.{ArePlans}
+use Rattle.lower_emit.specs.Entered.{BlocksStand}
 use Rattle.lower_emit.specs.inner.Plans.{plans_of, orders_of, prices_of}
 use Rattle.lower_emit.proofs.Priced.{weighs_some}
 use Rattle.lower_link.proofs.Compiled.{may_spend_all}
 use Rattle.lower_link.specs.Realises.{units}
-use Rattle.lower_link.specs.Follows.{extent, block_at, IsCountWithin, IsBounded, Followed}
+use Rattle.lower_link.specs.Follows.{extent, block_at, HoldsBlocks, IsCountWithin, IsBounded, Followed}
 use Rattle.lower_link.specs.inner.Made.{places_of, IsMade, FollowsLaw}
 use Rattle.lower_link.proofs.Planned.{orders_are, kept_are}
 use Rattle.lower_link.proofs.Realising.{Sound, Stood, begins_with}
@@ -107,7 +108,7 @@ record HasWithin (bound : ℕ) (t : State) : Type 0 where
 module _ (P : Program) (good : IsGood P) (plans : List Plan) (are : ArePlans P plans) (blocks : List (ℕ × ℕ)) (words : List ℕ) (made : IsMade P plans blocks words)
     (input : List ℕ) (whole : List (List ℕ × Bool)) (short : AreShort (length words) whole) (Written Ended : List ℕ → Type 0) where
   abbrev J : State → Loads → Type 0
-  J = Sound input words whole Written Ended (may_spend_all P (plans_of P plans) (prices_of P) (places_of blocks))
+  J = Sound input words whole Written Ended (may_spend_all P (plans_of P plans) (prices_of P) (places_of blocks)) (block_at words blocks) (suc (length P))
 
   abbrev bound_of : Loads → State → ℕ
   bound_of k t = units P (entries k) (length t.out)
@@ -186,7 +187,7 @@ module _ (P : Program) (good : IsGood P) (plans : List Plan) (are : ArePlans P p
   route_to = route P (orders_of plans) codes (codes (length P))
 
   abbrev Holds : (List ℕ → Type 0) → (List ℕ → Type 0) → State → Loads → Type 0
-  Holds Written Ended = Sound input words (route_to (suc n)) Written Ended (may_spend_all P (plans_of P plans) (prices_of P) (places_of blocks))
+  Holds Written Ended = Sound input words (route_to (suc n)) Written Ended (may_spend_all P (plans_of P plans) (prices_of P) (places_of blocks)) codes (suc (length P))
 
   count : length (seen loads) ≡ length loads
   count = length-map loads (λ load. (load.words, load.offset == 0))
@@ -194,20 +195,29 @@ module _ (P : Program) (good : IsGood P) (plans : List Plan) (are : ArePlans P p
   few : length (seen loads) ≤ n
   few = let a = loads_few L n ids (start_of words input) in let b = count in omega (arith, a, b)
 
-  stands_so : (Written Ended : List ℕ → Type 0) (E : State → Type 0) → Stood (Holds Written Ended) L E standing loads → Followed P words route_to standing loads
+  held_by : (t : State) → ((table : List ℕ) × (length table ≡ suc (length P)) × BlocksStand codes table t) → HoldsBlocks P words blocks t
+  held_by t h = record {
+    table = h.0;
+    there = h.2.there;
+    many = let e = h.1 in omega (arith, e);
+    each = λ i le. let e = h.1 in h.2.each i (omega (arith, e, le));
+  }
+
+  stands_so : (Written Ended : List ℕ → Type 0) (E : State → Type 0) → Stood (Holds Written Ended) L E standing loads → Followed P words blocks route_to standing loads
   stands_so Written Ended E h = record {
     on_route = subst (λ k. seen loads ≡ take k (route_to (k + 1))) count (route_first P (orders_of plans) codes (codes (length P)) (orders_are P good plans are) n (seen loads) few h.here.begins);
     whole_route = λ halted. subst (λ k. seen loads ≡ route_to (k + 1)) count (route_whole P (orders_of plans) codes (codes (length P)) (orders_are P good plans are) n (seen loads) few (h.here.all halted));
     keeps = λ running. (h.here.own running).own;
     array_zero = h.here.same.zero_is;
+    holds = λ some. held_by (state_in standing) (h.here.blocks some);
     bounds = bounded P good plans are blocks words made input (route_to (suc n)) (route_short P (orders_of plans) words blocks (suc n)) Written Ended L E standing loads h;
   }
 
-  by : (o : Option Meaning) → mean P (suc n) (main_of P) no_inputs ≡ o → Followed P words route_to standing loads
+  by : (o : Option Meaning) → mean P (suc n) (main_of P) no_inputs ≡ o → Followed P words blocks route_to standing loads
   by (Some r) e = stands_so _ _ _ (with_outcome P good plans are blocks words made L input n ids legal (suc n) r e)
   by None e = stands_so _ _ _ (without_outcome P good plans are blocks words made L input n ids legal e)
 
-  followed : Followed P words route_to standing loads
+  followed : Followed P words blocks route_to standing loads
   followed = by (mean P (suc n) (main_of P) no_inputs) refl
 
 pub follows : FollowsLaw

@@ -17,6 +17,7 @@ use Rattle.code_templates.specs.Lines.{IsOwnAt}
 use Rattle.code_templates.specs.inner.Spent.{spent}
 use Rattle.code_templates.proofs.Fresh.{some_new}
 use Rattle.code_templates.proofs.Staying.{IsSame}
+use Rattle.lower_emit.specs.Entered.{BlocksStand}
 use Rattle.lower_link.proofs.Compiled.{IsOnRoute}
 
 on_goes : (next : Next) (P Q : State → Type 0) → ((t : State) → P t → Q t) → OnGoes next P → OnGoes next Q
@@ -182,13 +183,18 @@ module _ (J : State → Loads → Type 0) (L : Limits) where
       stood (λ t. Unit {0}) n ids s legal
       (weaken J n (Leads J (suc k) Q) (λ t l. J t l × Unit {0}) (λ t l h. ((first_way J Q k t l h).1, tt)) s [] (split J Q n (suc k) s [] (subst (λ k. Leads J k Q s []) e h)))
 
--- What holds of a state on the way, with the loads before it: of its operator, its input and array 0, the loads, what was written, and what
--- was spent.
-pub record Sound (input first : List ℕ) (whole : List (List ℕ × Bool)) (Written Ended : List ℕ → Type 0) (bound : Loads → ℕ → ℕ) (t : State) (k : Loads) : Type 0 where
+-- once something was loaded, the blocks stand in so many arrays
+abbrev pub BlocksMade : (codes : ℕ → List ℕ) → (count : ℕ) → State → Loads → Type 0
+BlocksMade codes count t k = 1 ≤ length k → (table : List ℕ) × (length table ≡ count) × BlocksStand codes table t
+
+-- What holds of a state on the way, with the loads before it: of its operator, its input and array 0, the loads, the blocks, what was written,
+-- and what was spent.
+pub record Sound (input first : List ℕ) (whole : List (List ℕ × Bool)) (Written Ended : List ℕ → Type 0) (bound : Loads → ℕ → ℕ) (codes : ℕ → List ℕ) (count : ℕ) (t : State) (k : Loads) : Type 0 where
   pub own : t.halted ≡ false → IsOwnAt t
   pub same : IsSame input first t k
   pub begins : IsOnRoute whole k
   pub all : t.halted ≡ true → seen k ≡ whole
+  pub blocks : BlocksMade codes count t k
   pub writes : Written t.out
   pub wrote : t.halted ≡ true → Ended t.out
   pub spends : spent t ≤ bound k (length t.out)

@@ -29,17 +29,18 @@ use Rattle.lower_emit.specs.Entered.{Return, Entered}
 use Rattle.lower_emit.specs.inner.Uses.{Returned}
 use Rattle.lower_emit.specs.inner.Trips.{Plans, Prices, due, Along, Backed, Ran, CallLaw, IsKnownOf}
 use Rattle.lower_emit.proofs.Calling.{follow, due_entry}
+use Rattle.lower_emit.proofs.Using.{blocks_stand}
 use Rattle.lower_link.specs.inner.Boot.{Places, boot_cycles, boot_holds, Quiet, Booted, BootLaw}
 use Rattle.lower_emit.specs.KnownOutcomes.{by_numbers, TextNumbers, through, came_of, known_of}
 use Rattle.lower_link.specs.inner.Depth.{CallsLaw}
-use Rattle.lower_link.specs.inner.Printer.{Shown, lines, line_cycles, print_cycles, members, IsPaid, AreTexts, shown_came, shown_text, AreShown, shown_cycles, shown_credit, Over, PrinterLaw}
+use Rattle.lower_link.specs.inner.Printer.{Shown, lines, line_cycles, print_cycles, members, IsPaid, AreTexts, Kept, IsKept, shown_came, shown_text, AreShown, shown_cycles, shown_credit, Over, PrinterLaw}
 use Rattle.lower_link.proofs.Compiled.{may_spend, may_spend_all, AreTextsOf, IsCompiled, owed, shown_of, all_cycles, IsOnRoute}
 use Rattle.lower_link.proofs.Booting.{boots}
 use Rattle.lower_link.proofs.Counting.{calls_are, owed_calls, owed_append}
 use Rattle.lower_link.proofs.Outcomes.{outcomes_are}
 use Rattle.lower_link.proofs.Deep.{calls}
 use Rattle.lower_link.proofs.Lining.{printer_law}
-use Rattle.lower_link.proofs.Realising.{Sound, loads_along, running_along}
+use Rattle.lower_link.proofs.Realising.{Sound, BlocksMade, loads_along, running_along}
 use Rattle.two_d.proofs.Callers.{callers_few}
 
 -- the price of loads by what is seen of them
@@ -189,24 +190,24 @@ module _ (P : Program) (order : ℕ → List ℕ) (plans : Plans) (texts : TextN
 
   -- the way of `main`
   module _ (came : Option Ending) (visits : List Visit) (law : CallLaw blocks c plans (suc modules) main no_inputs came visits) where
-    ran : (t : State) (k : Loads) (b : Booted blocks p modules main size input t k) → Leads (Along c t k) law.0 (Ran blocks c b.table back came visits b.frame t k) t k
+    ran : (t : State) (k : Loads) (b : Booted blocks p modules main size input t k) → Leads (Along blocks b.ids c t k) law.0 (Ran blocks c b.table back came visits b.frame t k) t k
     ran t k b =
         law.1 b.table b.ids back b.frame t k
         (subst (λ o. Entered blocks b.table b.ids main size (plans main).north o back no_inputs b.frame t) (sym is.main_closed.1)
         (subst (λ o. Entered blocks b.table b.ids main size o None back no_inputs b.frame t) (sym is.main_closed.0) b.entered)) b.count_is (omega arith)
 
-  along_own : (s : State) (l : Loads) (t : State) (k : Loads) → Along c s l t k → IsOwn (op_under t)
-  along_own s l t k h = h.own.own
+  along_own : (ids : List ℕ) (s : State) (l : Loads) (t : State) (k : Loads) → Along blocks ids c s l t k → IsOwn (op_under t)
+  along_own ids s l t k h = h.own.own
 
   -- what may have been spent with these loads and so many bytes
   abbrev pub most_spent : Loads → ℕ → ℕ
   most_spent k bytes = may_spend_all P plans c p k bytes
 
   abbrev pub SoundFor : List (List ℕ × Bool) → (List ℕ → Type 0) → (List ℕ → Type 0) → State → Loads → Type 0
-  SoundFor whole Written Ended = Sound input words whole Written Ended most_spent
+  SoundFor whole Written Ended = Sound input words whole Written Ended most_spent blocks (suc modules)
 
   abbrev Spends : State → Loads → Type 0
-  Spends t k = IsOwnAt t × (spent t ≤ most_spent k (length t.out))
+  Spends t k = IsOwnAt t × (spent t ≤ most_spent k (length t.out)) × BlocksMade blocks (suc modules) t k
 
   -- `main` was entered after these cycles
   abbrev EnteredMain : State → Loads → Type 0
@@ -216,7 +217,7 @@ module _ (P : Program) (order : ℕ → List ℕ) (plans : Plans) (texts : TextN
   boot_spends =
       let most = boot_cycles p modules + boot_holds p modules size in
       weaken_along (λ t k. Quiet t k × (spent t ≤ most)) (λ t k. Spends t k × (t.out ≡ [])) (boot_cycles p modules) EnteredMain
-      (λ t k h. let s = h.1 in ((h.0.0, omega (arith, s)), h.0.1)) start []
+      (λ t k h. let s = h.1 in let none = ap length h.0.2 in ((h.0.0, omega (arith, s), λ some. absurd (omega (arith, some, none))), h.0.1)) start []
       (all_along Quiet EnteredMain (λ t k h. h.0.own) (λ t. spent t ≤ most) (λ s t r h. let x = r.1 in omega (arith, x, h))
       (λ t k h. let x = spent_is t in let a = h.0.held_is in let n = h.1 in omega (arith, x, a, n)) (boot_cycles p modules) start [] (words, get-insert_same Rattle.std.specs.FinMap.empty 0 words)
       (counted Quiet (Booted blocks p modules main size input) (boot_cycles p modules) start [] boot))
@@ -258,7 +259,7 @@ module _ (P : Program) (order : ℕ → List ℕ) (plans : Plans) (texts : TextN
       -- the number of cycles of `main` is within its price
       few : (t : State) (k : Loads) → Booted blocks p modules main size input t k → law.0 ≤ most
       few t k b =
-          ends_so (Along c t k) (λ u j. Left t k b u j × (u.cycles ≡ t.cycles + law.0)) (along_own t k) (law.0 ≤ most)
+          ends_so (Along blocks b.ids c t k) (λ u j. Left t k b u j × (u.cycles ≡ t.cycles + law.0)) (along_own b.ids t k) (law.0 ≤ most)
           (λ u j h.
           let bound = h.0.bound in
           let n = h.1 in
@@ -267,7 +268,7 @@ module _ (P : Program) (order : ℕ → List ℕ) (plans : Plans) (texts : TextN
           let z = b.held_is in
           let e = owed_is c.price j ∙ ap (owed c.price) (seen_all t k b u j h.0) in
           omega (arith, bound, n, x, y, z, e))
-          law.0 t k (blocks main) b.entered.code_is (counted (Along c t k) (Left t k b) law.0 t k (ran (Some came) visits law t k b))
+          law.0 t k (blocks main) b.entered.code_is (counted (Along blocks b.ids c t k) (Left t k b) law.0 t k (ran (Some came) visits law t k b))
 
       few_all : law.0 ≤ most
       few_all =
@@ -292,11 +293,11 @@ module _ (P : Program) (order : ℕ → List ℕ) (plans : Plans) (texts : TextN
           omega (arith, one, last, calls)
 
       abbrev Finished : State → Loads → Type 0
-      Finished t k = (Over T t × (seen k ≡ whole)) × (spent t ≤ most_spent k (length t.out))
+      Finished t k = (Over T t × (seen k ≡ whole)) × (spent t ≤ most_spent k (length t.out)) × BlocksMade blocks (suc modules) t k
 
       main_spends : (t : State) (k : Loads) (b : EnteredMain t k) → Leads Spends law.0 (Left t k b.0) t k
       main_spends t k b =
-          weaken_along (Along c t k) Spends law.0 (Left t k b.0)
+          weaken_along (Along blocks b.0.ids c t k) Spends law.0 (Left t k b.0)
           (λ u j h.
           let within = h.bound in
           let x = spent_is t in
@@ -304,7 +305,7 @@ module _ (P : Program) (order : ℕ → List ℕ) (plans : Plans) (texts : TextN
           let n = b.1 in
           let e = owed_is c.price j in
           let one = due_main t k b.0 in
-          (h.own, omega (arith, within, x, a, n, e, one))) t k (ran (Some came) visits law t k b.0)
+          (h.own, omega (arith, within, x, a, n, e, one), λ some. (b.0.ids, b.0.count_is, h.blocks))) t k (ran (Some came) visits law t k b.0)
 
       -- in the printer each byte pays
       printer_spends : (t : State) (k : Loads) (b : EnteredMain t k) (u : State) (j : Loads) → Left t k b.0 u j → Leads Spends (shown_cycles text shown) Finished u j
@@ -315,7 +316,9 @@ module _ (P : Program) (order : ℕ → List ℕ) (plans : Plans) (texts : TextN
           let ret : Returned blocks b.0.table back (shown_came shown) b.0.frame t u = subst (λ o. Returned blocks b.0.table back o b.0.frame t u) (shown_came_is P texts text count is.text_numbers r.outcome) h.returned in
           let credit = shown_credit shown in
           let base = spent u + credit in
-          let printed = printer_law base blocks text count b.0.table modules shown b.0.frame j t u is.printer (shown_texts P texts text count is.text_numbers r.outcome outcome_of) ret (omega arith) in
+          let kept : Kept = record { words = blocks; ids = b.0.ids } in
+          let stand = blocks_stand blocks b.0.table b.0.ids b.0.frame t u b.0.entered.apart b.0.entered.table_is (h.returned.table_is ∙ sym b.0.entered.table_is) h.returned.keeps b.0.entered.blocks in
+          let printed = printer_law base kept blocks text count b.0.table modules shown b.0.frame j t u is.printer (shown_texts P texts text count is.text_numbers r.outcome outcome_of) ret (omega arith) stand in
           let enough : base ≤ may_spend P plans c p j + 111 + 108 * entries j =
           (let within = h.bound in
           let x = spent_is t in
@@ -328,14 +331,15 @@ module _ (P : Program) (order : ℕ → List ℕ) (plans : Plans) (texts : TextN
           omega (arith, within, x, a, began, e, one, all, few)) in
           let paid : (v : State) (q : Loads) → q ≡ j → IsPaid base 0 v → spent v ≤ most_spent q (length v.out) = λ v q same paid.
           (let o : owed c.price (seen q) ≡ owed c.price (seen j) = ap (λ x. owed c.price (seen x)) same in let e : entries q ≡ entries j = ap entries same in omega (arith, paid, enough, o, e)) in
-          weaken_along (λ v q. IsOwnAt v × (q ≡ j) × IsPaid base 0 v) Spends (shown_cycles text shown) Finished (λ v q w. (w.0, paid v q w.1 w.2)) u j
-          (weaken (λ v q. IsOwnAt v × (q ≡ j) × IsPaid base 0 v) (shown_cycles text shown) (λ v q. Over (u.out ++ shown_text text shown) v × (q ≡ j) × IsPaid base 0 v) Finished
+          weaken_along (λ v q. IsOwnAt v × (q ≡ j) × IsPaid base 0 v × IsKept kept v) Spends (shown_cycles text shown) Finished (λ v q w. (w.0, paid v q w.1 w.2, λ some. (b.0.ids, b.0.count_is, w.3))) u j
+          (weaken (λ v q. IsOwnAt v × (q ≡ j) × IsPaid base 0 v × IsKept kept v) (shown_cycles text shown) (λ v q. Over (u.out ++ shown_text text shown) v × (q ≡ j) × IsPaid base 0 v × IsKept kept v) Finished
           (λ v q w. (
             (
               record { halted = w.0.halted; out_is = w.0.out_is ∙ ap (λ o. o ++ shown_text text shown) out ∙ shown_is P texts text count is.text_numbers r.outcome outcome_of },
               ap seen w.1 ∙ on,
             ),
             paid v q w.1 w.2,
+            λ some. (b.0.ids, b.0.count_is, w.3),
           )) u j printed)
 
       -- the whole way
@@ -364,6 +368,7 @@ module _ (P : Program) (order : ℕ → List ℕ) (plans : Plans) (texts : TextN
             same = h.1.0.0.1;
             begins = h.1.0.1;
             all = λ halted. absurd (true≢false (sym halted ∙ h.0));
+            blocks = h.1.0.0.0.2;
             writes = h.1.1;
             wrote = λ halted. absurd (true≢false (sym halted ∙ h.0));
             spends = h.1.0.0.0.1;
@@ -375,6 +380,7 @@ module _ (P : Program) (order : ℕ → List ℕ) (plans : Plans) (texts : TextN
               same = h.1;
               begins = ([], append-nil (seen k) ∙ h.0.0.1);
               all = λ halted. h.0.0.1;
+              blocks = h.0.2;
               writes = ([], append-nil t.out ∙ h.0.0.0.out_is);
               wrote = λ halted. h.0.0.0.out_is;
               spends = h.0.1;
@@ -424,7 +430,7 @@ module _ (P : Program) (order : ℕ → List ℕ) (plans : Plans) (texts : TextN
       many : (t : State) (k : Loads) → Booted blocks p modules main size input t k → n ≤ law.0
       many t k b =
           let R : State → Loads → Type 0 = λ u j. seen j ≡ seen k ++ map (load_of blocks) visits in
-          ends_so (Along c t k) (λ u j. R u j × (length j ≤ length k + law.0)) (along_own t k) (n ≤ law.0)
+          ends_so (Along blocks b.ids c t k) (λ u j. R u j × (length j ≤ length k + law.0)) (along_own b.ids t k) (n ≤ law.0)
           (λ u j h.
           let all : seen j ≡ route P order blocks (blocks modules) (suc n) =
           h.0 ∙ ap (λ x. seen x ++ map (load_of blocks) visits) b.loads ∙ ap (map (load_of blocks)) (sym walk_is) ∙ sym route_is in
@@ -434,7 +440,7 @@ module _ (P : Program) (order : ℕ → List ℕ) (plans : Plans) (texts : TextN
           let m = h.1 in
           let one = ap length b.loads in
           omega (arith, a, e, m, one, long))
-          law.0 t k (blocks main) b.entered.code_is (loads_counted (Along c t k) R law.0 t k (ran None visits law t k b))
+          law.0 t k (blocks main) b.entered.code_is (loads_counted (Along blocks b.ids c t k) R law.0 t k (ran None visits law t k b))
 
       many_all : n ≤ law.0
       many_all =
@@ -453,7 +459,7 @@ module _ (P : Program) (order : ℕ → List ℕ) (plans : Plans) (texts : TextN
       main_silent t k b =
           let R : State → Loads → Type 0 = λ u j. seen j ≡ seen k ++ map (load_of blocks) visits in
           weaken Silent law.0 R Walked (λ u j h. h ∙ ap (λ x. seen x ++ map (load_of blocks) visits) b.0.loads ∙ ap (map (load_of blocks)) (sym walk_is) ∙ sym route_is) t k
-          (weaken_along (Along c t k) Silent law.0 R
+          (weaken_along (Along blocks b.0.ids c t k) Silent law.0 R
           (λ u j h.
           let within = h.bound in
           let x = spent_is t in
@@ -461,7 +467,7 @@ module _ (P : Program) (order : ℕ → List ℕ) (plans : Plans) (texts : TextN
           let n = b.1 in
           let e = owed_is c.price j in
           let one = due_main t k b.0 in
-          ((h.own, omega (arith, within, x, a, n, e, one)), h.out_is ∙ b.0.out_is)) t k (ran None visits law t k b.0))
+          ((h.own, omega (arith, within, x, a, n, e, one), λ some. (b.0.ids, b.0.count_is, h.blocks)), h.out_is ∙ b.0.out_is)) t k (ran None visits law t k b.0))
 
       abbrev lasts : ℕ
       lasts = boot_cycles p modules + law.0
@@ -485,6 +491,7 @@ module _ (P : Program) (order : ℕ → List ℕ) (plans : Plans) (texts : TextN
                   same = h.1.0.1;
                   begins = h.1.1;
                   all = λ halted. absurd (true≢false (sym halted ∙ h.0));
+                  blocks = h.1.0.0.0.2;
                   writes = h.1.0.0.1;
                   wrote = λ halted. absurd (true≢false (sym halted ∙ h.0));
                   spends = h.1.0.0.0.1;

@@ -1,8 +1,9 @@
 -- What it means that words with a list of blocks follow a program, within bounds.
 use Rattle.std.specs.Prelude.{ℕ, ◌+◌, ◌*◌, ◌≤◌, ◌≡◌, true, false, Bool, List, length, take}
-use Rattle.std.specs.Prelude.{slice_index_or, All, AllPairs, IfSome}
+use Rattle.std.specs.Prelude.{slice_index, slice_index_or, All, AllPairs, IfSome, Some}
+use Rattle.std.specs.FinMap as map
 use Rattle.umix_base.specs.declared.limits.Limits.{Limits}
-use Rattle.um_word.specs.State.{array_at, start_of, live_arrays, live_words}
+use Rattle.um_word.specs.State.{State, array_at, reg, start_of, live_arrays, live_words}
 use Rattle.um_word.specs.Table.{Fault, ArraysFull, WordsFull, op_under}
 use Rattle.um_word.specs.Run.{Standing, run, first_of, ids_left, AreLegal}
 use Rattle.um_word.specs.Loads.{Loads, loads_by, seen, entries, state_in, fault_in}
@@ -10,7 +11,7 @@ use Rattle.two_d.specs.Programs.{Program}
 use Rattle.two_d.specs.Walks.{AreKeptOrders, route}
 use Rattle.two_d.specs.Weights.{weight}
 use Rattle.code_templates.specs.Lines.{IsOwn, last_loaded}
-use Rattle.code_templates.specs.Laws.{piece}
+use Rattle.code_templates.specs.Laws.{piece, HasWords}
 use Rattle.lower_link.specs.Realises.{units}
 
 -- (place, length) of a block in the words
@@ -29,6 +30,16 @@ pub record AreBlocks (P : Program) (words : List ℕ) (blocks : List (ℕ × ℕ
   pub within : All (λ (b : ℕ × ℕ). b.0 + b.1 ≤ length words) blocks
   pub apart : AllPairs (λ (b : ℕ × ℕ). λ (c : ℕ × ℕ). b.0 + b.1 ≤ c.0) blocks
 
+-- Register 1 names the table of blocks: its words name arrays other than 0, and each holds its
+-- block, the printer's last.
+pub record HoldsBlocks (P : Program) (words : List ℕ) (blocks : List (ℕ × ℕ))
+    (s : State) : Type 0 where
+  pub table : List ℕ
+  pub there : map.get s.arrays (reg s 1) ≡ Some table
+  pub many : length table ≡ length P + 1
+  pub each : (i : ℕ) → i ≤ length P →
+      HasWords s.arrays (slice_index table i) (block_at words blocks i)
+
 -- the number that a limit's fault carries is within its bound
 abbrev pub IsCountWithin : (bound : ℕ) → Fault → Type 0
 IsCountWithin bound (ArraysFull count) = count ≤ 8 * bound
@@ -44,14 +55,16 @@ pub record IsBounded {I : Type 0} (bound : ℕ) (run : Standing I) : Type 0 wher
 
 -- How a run of these words with these loads stands. The loads are the first of the route, and all
 -- of it where the run has halted. Array 0 is the block that was loaded last, or the words where
--- none was. The operator that comes next takes no input and abandons no array. And the run is
--- within bounds, by its entries and the bytes that it wrote so far.
-pub record Followed {I : Type 0} (P : Program) (words : List ℕ)
+-- none was. From the first load on, the boot's call of main, each array that was made for a block
+-- holds this block. The operator that comes next takes no input and abandons no array. And the run
+-- is within bounds, by its entries and the bytes that it wrote so far.
+pub record Followed {I : Type 0} (P : Program) (words : List ℕ) (blocks : List (ℕ × ℕ))
     (route_to : ℕ → List (List ℕ × Bool))
     (run : Standing I) (loads : Loads) : Type 0 where
   pub on_route : seen loads ≡ take (length loads) (route_to (length loads + 1))
   pub whole_route : (state_in run).halted ≡ true → seen loads ≡ route_to (length loads + 1)
   pub array_zero : array_at (state_in run).arrays 0 ≡ last_loaded words loads
+  pub holds : 1 ≤ length loads → HoldsBlocks P words blocks (state_in run)
   pub keeps : (state_in run).halted ≡ false → IsOwn (op_under (state_in run))
   pub bounds : IsBounded (units P (entries loads) (length (state_in run).out)) run
 
@@ -65,6 +78,7 @@ pub record Follows (P : Program) (words : List ℕ) (blocks : List (ℕ × ℕ))
   pub kept : AreKeptOrders P order
   pub runs : (L : Limits) (input : List ℕ) (n : ℕ) (ids : List ℕ) →
       length words ≤ L.words → AreLegal L n ids (start_of words input) →
-      Followed P words (route P order (block_at words blocks) (block_at words blocks (length P)))
+      Followed P words blocks
+      (route P order (block_at words blocks) (block_at words blocks (length P)))
       (run L n ids (start_of words input)) (loads_by first_of ids_left L n ids
       (start_of words input))

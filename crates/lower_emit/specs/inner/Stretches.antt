@@ -47,6 +47,7 @@ pub record InBlock (r : Range) (table frame : ℕ) (code : List ℕ) (place : �
   pub current_is : reg s 2 ≡ frame
   pub code_is : map.get s.arrays 0 ≡ Some code
   pub came_with : map.get r.came.arrays 0 ≡ Some code
+  pub came_table : reg r.came 1 ≡ table
   pub framed : r.frame ≡ frame
   pub still : StandStill (frame ∷ []) r.came.arrays s.arrays
   pub frame_is : HasWords s.arrays frame slots

@@ -16,7 +16,7 @@ use Rattle.um_word.specs.Loads.{Loads, seen}
 use Rattle.um_word.specs.State.{State}
 use Rattle.code_templates.specs.Lines.{IsOwnAt, StandsAt}
 use Rattle.code_templates.specs.inner.Spent.{spent}
-use Rattle.lower_emit.specs.Entered.{Return, Entered}
+use Rattle.lower_emit.specs.Entered.{Return, Entered, BlocksStand}
 use Rattle.lower_emit.specs.inner.Uses.{Returned}
 use Rattle.um_word.specs.Leads.{Leads}
 use Rattle.code_templates.specs.Templates.{return_outcome}
@@ -72,10 +72,13 @@ pub record Prices : Type 0 where
   pub frame : ℕ
   pub price : ℕ
 
--- On the way from a block that was entered in state s, with the loads l: nothing is written or
--- read, and of what was spent no more than the price of this block and of those entered since.
-pub record Along (c : Prices) (s : State) (l : Loads) (t : State) (k : Loads) : Type 0 where
+-- On the way from a block that was entered in state s, with the loads l: the blocks stand in their
+-- arrays, nothing is written or read, and of what was spent no more than the price of this block
+-- and of those entered since.
+pub record Along (codes : ℕ → List ℕ) (ids : List ℕ) (c : Prices) (s : State) (l : Loads)
+    (t : State) (k : Loads) : Type 0 where
   pub own : IsOwnAt t
+  pub blocks : BlocksStand codes ids t
   pub out_is : t.out ≡ s.out
   pub rest_is : t.rest ≡ s.rest
   pub bound : spent t + due c.price l ≤ spent s + due c.price k + c.price
@@ -103,7 +106,7 @@ CallLaw codes c plans count m a came visits =
     (n : ℕ) × ((table : ℕ) (ids : List ℕ) (back : Return) (frame : ℕ) (s : State) (l : Loads) →
     Entered codes table ids m (plans m).layout.size (plans m).north (plans m).west back a frame s →
     length ids ≡ count → back.block < count →
-    Leads (Along c s l) n (Ran codes c table back came visits frame s l) s l)
+    Leads (Along codes ids c s l) n (Ran codes c table back came visits frame s l) s l)
 
 -- a `use` calls a module that is there, with a frame of its size, and gives the number of its own
 -- block

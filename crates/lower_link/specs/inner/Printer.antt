@@ -11,6 +11,7 @@ use Rattle.um_word.specs.Leads.{Leads}
 use Rattle.code_templates.specs.Lines.{IsOwnAt, StandsAt}
 use Rattle.codex_values.specs.Value.{Value, unit, pair, inl, inr, show}
 use Rattle.lower_emit.specs.inner.Stretches.{KeepsArrays}
+use Rattle.lower_emit.specs.Entered.{BlocksStand}
 use Rattle.lower_emit.specs.Stands.{Stands, TextTrail, At, Via, Trails, Ending}
 use Rattle.lower_emit.specs.inner.Uses.{Returned}
 use Rattle.std.specs.FinMap as map
@@ -42,12 +43,23 @@ print_value_code =
 abbrev pub IsPaid : (base credit : ℕ) → State → Type 0
 IsPaid base credit s = spent s + credit ≤ base + 200 * length s.out
 
--- n cycles of the printer's own, which load no array and are paid for, lead to Q: from a state with
--- one credit to a state with another
-abbrev pub Prints : Loads → (base before after n : ℕ) → (State → Type 0) → State → Type 0
-Prints l base before after n Q s =
-    IsPaid base before s → Leads (λ t k. IsOwnAt t × (k ≡ l) × IsPaid base 0 t) n (λ t k. Q t
-    × (k ≡ l) × IsPaid base after t) s l
+-- the words of the blocks by their numbers, and the arrays that hold them
+pub record Kept : Type 0 where
+  pub words : ℕ → List ℕ
+  pub ids : List ℕ
+
+-- they stand there, and register 1 names their table
+abbrev pub IsKept : Kept → State → Type 0
+IsKept kept s = BlocksStand kept.words kept.ids s
+
+-- n cycles of the printer's own, which load no array, are paid for and keep the blocks, lead to Q:
+-- from a state with one credit to a state with another
+abbrev pub Prints : Loads → (base : ℕ) → Kept → (before after n : ℕ) → (State → Type 0) → State →
+    Type 0
+Prints l base kept before after n Q s =
+    IsPaid base before s → IsKept kept s →
+    Leads (λ t k. IsOwnAt t × (k ≡ l) × IsPaid base 0 t × IsKept kept t) n
+    (λ t k. Q t × (k ≡ l) × IsPaid base after t × IsKept kept t) s l
 
 -- the machine is in the printer: at a place, with the cell that is printed, the stack, the arrays
 -- and the output
@@ -81,13 +93,13 @@ pub record Printed (table place cell stack : ℕ) (arrays : Arrays) (code out : 
 -- From `print`, with a cell that stands for v and a stack that isn't empty, the text of v is
 -- written; a credit of 20 is enough, and is left.
 unfoldable pub PrintLaw : Type 0
-PrintLaw = (base table : ℕ) (code : List ℕ) (l : Loads) (v : Value) (cell stack place next rest : ℕ)
-    (arrays : Arrays) (out : List ℕ) (s : State) →
+PrintLaw = (base : ℕ) (kept : Kept) (table : ℕ) (code : List ℕ) (l : Loads) (v : Value)
+    (cell stack place next rest : ℕ) (arrays : Arrays) (out : List ℕ) (s : State) →
     StandsAt code 15 print_value_code → map.get arrays 0 ≡ Some code →
     InPrinter table 15 cell stack arrays out s → Stands arrays cell v →
     (stack ≡ 0 → ⊥) → map.get arrays stack ≡ Some (place ∷ next ∷ rest ∷ []) →
-    Prints l base 20 20 (print_cycles v) (Printed table place next rest arrays code (out ++ show v))
-    s
+    Prints l base kept 20 20 (print_cycles v)
+    (Printed table place next rest arrays code (out ++ show v)) s
 
 -- all of the printer's code but the places of the texts and the texts
 abbrev pub printer_code : List Op
@@ -137,12 +149,13 @@ members (Via j inner) = 1 + members inner
 -- From `rev`, with a cell that stands for a trail and a stack that isn't empty, the lines of the
 -- trail are written; a credit of 108 for each of its members is enough, and what is spare is left.
 unfoldable pub LinesLaw : Type 0
-LinesLaw = (base spare table : ℕ) (code : List ℕ) (text : ℕ → List ℕ) (texts : ℕ) (l : Loads)
-    (r : TextTrail) (cell stack place next rest : ℕ) (arrays : Arrays) (out : List ℕ) (s : State) →
+LinesLaw = (base : ℕ) (kept : Kept) (spare table : ℕ) (code : List ℕ) (text : ℕ → List ℕ)
+    (texts : ℕ) (l : Loads) (r : TextTrail) (cell stack place next rest : ℕ) (arrays : Arrays)
+    (out : List ℕ) (s : State) →
     IsPrinter code text texts → AreTexts texts r → map.get arrays 0 ≡ Some code →
     InPrinter table 117 cell stack arrays out s → Trails arrays cell r →
     (stack ≡ 0 → ⊥) → map.get arrays stack ≡ Some (place ∷ next ∷ rest ∷ []) →
-    Prints l base (108 * members r + spare) spare (line_cycles text r)
+    Prints l base kept (108 * members r + spare) spare (line_cycles text r)
     (Printed table place next rest arrays code (out ++ lines text r)) s
 
 -- what is printed of an outcome: a value, or where it is stuck
@@ -183,10 +196,10 @@ pub record Over (out : List ℕ) (t : State) : Type 0 where
 -- Where a block has returned to the printer, the text of the outcome is written, and the machine
 -- halts; its credit is enough.
 unfoldable pub PrinterLaw : Type 0
-PrinterLaw = (base : ℕ) (blocks : ℕ → List ℕ) (text : ℕ → List ℕ) (texts table number : ℕ)
-    (shown : Shown) (frame : ℕ) (l : Loads) (s t : State) →
+PrinterLaw = (base : ℕ) (kept : Kept) (blocks : ℕ → List ℕ) (text : ℕ → List ℕ)
+    (texts table number : ℕ) (shown : Shown) (frame : ℕ) (l : Loads) (s t : State) →
     IsPrinter (blocks number) text texts → AreShown texts shown →
     Returned blocks table (record { caller = 0; block = number; offset = 0 })
     (shown_came shown) frame s t →
-    Prints l base (shown_credit shown) 0 (shown_cycles text shown)
+    Prints l base kept (shown_credit shown) 0 (shown_cycles text shown)
     (Over (t.out ++ shown_text text shown)) t
