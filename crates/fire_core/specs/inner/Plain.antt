@@ -31,11 +31,12 @@ known_in values trails known = record {
 abbrev pub KnownFits : ℕ → ℕ → Option Known → Type 0
 KnownFits n t known = IfSome known (λ k. IsPlaceIn n t k.outcome)
 
--- the effect has its places in the stores, and the module that it starts is one of so many
+-- the module that the effect starts, if it starts one, is one of so many
 abbrev pub Begins : ℕ → Effect → Type 0
 Begins modules (Done cell) = Unit {0}
 Begins modules (Starts kind inputs) = kind < modules
 
+-- so it is, and the places of the effect, if there is one, are in the stores
 abbrev pub EffectFitsIn : ℕ → ℕ → ℕ → Option Effect → Type 0
 EffectFitsIn modules n t effect = IfSome effect (λ e. EffectFits n t e × Begins modules e)
 
@@ -44,20 +45,24 @@ abbrev pub effects_in : Program → List Value → List Trail → RowForm → �
 effects_in P values trails row = act P row.kind (wires (instance_in values trails row))
 
 -- what box b of module m comes to by these answers, where it does this
-pub record IsFired (values : List Value) (trails : List Trail) (answer : Answers) (m b : ℕ) (effect : Option mean.Effect) (fired : Fired) : Type 0 where
+pub record IsFired (values : List Value) (trails : List Trail) (answer : Answers) (m b : ℕ)
+    (effect : Option mean.Effect) (fired : Fired) : Type 0 where
   pub cell : option_map (cell_in values trails) fired.cell ≡ option_map (cell_of m b answer) effect
   pub known : fired.known ≡ test_of (is_known answer) effect
   pub firings : fired.firings ≡ stopped (count_of (firings_of answer) effect)
   pub instances : fired.instances ≡ stopped (count_of (instances_of answer) effect)
 
 -- what the first n boxes of module m come to by these answers, where they do this
-pub record IsRound (values : List Value) (trails : List Trail) (answer : Answers) (m : ℕ) (effects : ℕ → Option mean.Effect) (n : ℕ) (round : Round) : Type 0 where
+pub record IsRound (values : List Value) (trails : List Trail) (answer : Answers) (m : ℕ)
+    (effects : ℕ → Option mean.Effect) (n : ℕ) (round : Round) : Type 0 where
   pub sized : length round.cells.items ≡ n
-  pub cells : (b : ℕ) → b < n → option_map (cell_in values trails) (slice_index_or round.cells.items b None) ≡ option_map (cell_of m b answer) (effects b)
+  pub cells : (b : ℕ) → b < n → option_map (cell_in values trails) (slice_index_or round.cells.items b None)
+      ≡ option_map (cell_of m b answer) (effects b)
   pub known : round.known ≡ all_below n (λ b. test_of (is_known answer) (effects b))
   pub firings : round.firings ≡ stopped (sum_below n (λ b. count_of (firings_of answer) (effects b)))
   pub instances : round.instances ≡ stopped (sum_below n (λ b. count_of (instances_of answer) (effects b)))
 
+-- the places of the cells are below the numbers of values and of trails
 abbrev pub CellsFit : ℕ → ℕ → List (Option Cell) → Type 0
 CellsFit n t cells = (b : ℕ) → CellFits n t (slice_index_or cells b None)
 
@@ -74,7 +79,8 @@ row_for kind inputs cells = record {
 }
 
 -- the row of an instance of module m with these inputs, whose wires carry this
-pub record IsRowOf (values : List Value) (trails : List Trail) (m : ℕ) (a : mean.Inputs) (look : Origin → Option Value) (row : RowForm) : Type 0 where
+pub record IsRowOf (values : List Value) (trails : List Trail) (m : ℕ) (a : mean.Inputs)
+    (look : Origin → Option Value) (row : RowForm) : Type 0 where
   pub kind : row.kind ≡ m
   pub inputs : inputs_in values row.north row.west ≡ a
   pub carry : wires (instance_in values trails row) ≡ look
