@@ -11,12 +11,15 @@ use Rattle.umix_base.specs.declared.Failed.{Failed}
 use Rattle.um_word.specs.State.{State, Arrays}
 use Rattle.um_word.specs.Rule.{Identifiers}
 use Rattle.um_machine.specs.declared.stop.Stop.{Stop}
+use Rattle.um_machine.specs.declared.stop.Stop.TheVariants as stop
 use Rattle.um_machine.specs.MachineView.{MachineView}
 use Rattle.um_machine.specs.Outside.{MayHold}
 use Rattle.um_debug.specs.declared.course.Came.{Came}
+use Rattle.um_debug.specs.declared.course.Came.TheVariants as came
 use Rattle.um_debug.specs.declared.course.Came.TheVariants.{Stopped}
 use Rattle.um_debug.specs.declared.command.WordPlace.{WordPlace}
 use Rattle.um_debug.specs.declared.debugger.DebugEnd.{DebugEnd}
+use Rattle.um_debug.specs.declared.debugger.DebugEnd.TheVariants as ends
 use Rattle.um_debug.specs.CommandLines.{IsLine, HasNoLineFeed, most_line_bytes}
 use Rattle.um_debug.specs.Course.{Points, Going, Goes, Ends, goes_for, IsCutShort}
 use Rattle.um_debug.specs.Replies.{word_at}
@@ -41,6 +44,13 @@ abbrev pub TakesLine : (before now : Option (List ℕ)) → Result (Option (List
 TakesLine before now (Ok None) = MayHold before [] × MayHold now []
 TakesLine before now (Ok (Some line)) = (more : List ℕ) → MayHold now more → TookLine before line more
 TakesLine before now (Err failed) = TookPart before now
+
+-- what a stop comes to that is neither of a budget nor of a halt
+abbrev pub came_by : Stop → Result Came DebugEnd
+came_by stop.ReadFault = Err ends.ReadFault
+came_by stop.WriteFault = Err ends.WriteFault
+came_by stop.Memory = Err ends.Memory
+came_by stop = Ok (came.Failed stop)
 
 -- cycles came to this
 abbrev pub CameTo : Going → Identifiers → State → Came → Type 0
