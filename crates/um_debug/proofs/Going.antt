@@ -26,7 +26,7 @@ abbrev pub going_of : Standing Identifiers → Going
 going_of (Failed t j fault) = Ends t j (came.Failed (stop_of fault))
 going_of (Stands t j) = if t.halted then Ends t j came.Halted else Goes t j
 
-pub after_alike : (s : State) (x : Standing Identifiers) → after_cycle no_points s x ≡ going_of x
+after_alike : (s : State) (x : Standing Identifiers) → after_cycle no_points s x ≡ going_of x
 after_alike s (Failed t j fault) = refl
 after_alike s (Stands t j) = refl
 
@@ -45,7 +45,7 @@ module _ (L : Limits) where
   more_from n i s (Stands t j) e =
       more_of n i s t j t.halted refl ∙ ap going_of (sym (goes_on L n 1 i j s t e))
 
-  pub unpointed : (n : ℕ) (i : Identifiers) (s : State) → goes_for L no_points (suc n) i s ≡ going_of (ruled L (suc n) i s)
+  unpointed : (n : ℕ) (i : Identifiers) (s : State) → goes_for L no_points (suc n) i s ≡ going_of (ruled L (suc n) i s)
   unfolding goes_for
   unpointed zero i s = after_alike s (ruled L 1 i s)
   unpointed (suc n) i s =
@@ -74,33 +74,44 @@ neither true stop budget halted e = halted e
 neither false stop budget halted e = budget e
 
 -- a state that runs on, and one that has halted
-pub goes_running : (t : State) (j : Identifiers) → t.halted ≡ false → going_of (Stands t j) ≡ Goes t j
+goes_running : (t : State) (j : Identifiers) → t.halted ≡ false → going_of (Stands t j) ≡ Goes t j
 goes_running t j h = ap (λ b. if b then Ends t j came.Halted else Goes t j) h
 
-pub ends_halted : (t : State) (j : Identifiers) → t.halted ≡ true → going_of (Stands t j) ≡ Ends t j came.Halted
+ends_halted : (t : State) (j : Identifiers) → t.halted ≡ true → going_of (Stands t j) ≡ Ends t j came.Halted
 ends_halted t j h = ap (λ b. if b then Ends t j came.Halted else Goes t j) h
+
+-- a machine that ran on stands there, and runs
+pub running_there : (new : MachineView) (t : State) (x : Standing Identifiers) → EndsAs x new t Budget →
+    (x ≡ Stands t new.identifiers) × (t.halted ≡ false)
+running_there new t (Stands u j) e = (ap (λ v. Stands v j) e.0 ∙ ap (Stands t) e.1, is_running t.halted e.2)
+running_there new t (Failed u j fault) e = absurd (not_budget fault e.2)
+
+-- one that halted stands there, and has halted
+pub halted_there : (new : MachineView) (t : State) (x : Standing Identifiers) → EndsAs x new t Halted →
+    (x ≡ Stands t new.identifiers) × (t.halted ≡ true)
+halted_there new t (Stands u j) e = (ap (λ v. Stands v j) e.0 ∙ ap (Stands t) e.1, has_halted t.halted e.2)
+halted_there new t (Failed u j fault) e = absurd (not_halted fault e.2)
+
+-- any other failed there
+pub failed_there : (new : MachineView) (t : State) (stop : Stop) (x : Standing Identifiers) → stop ≢ Budget → stop ≢ Halted →
+    EndsAs x new t stop → (fault : Fault) × (x ≡ Failed t new.identifiers fault) × (stop ≡ stop_of fault)
+failed_there new t stop (Stands u j) budget halted e = absurd (neither t.halted stop budget halted e.2)
+failed_there new t stop (Failed u j fault) budget halted e =
+    (fault, ap (λ v. Failed v j fault) e.0 ∙ ap (λ k. Failed t k fault) e.1, e.2)
 
 -- what cycles without points came to, where a run stood so
 module _ (new : MachineView) (t : State) where
-  pub at_budget : (x : Standing Identifiers) → EndsAs x new t Budget → going_of x ≡ Goes t new.identifiers
-  at_budget (Stands u j) e =
-      goes_running u j (ap (λ (v : State). v.halted) e.0 ∙ is_running t.halted e.2)
-      ∙ ap (λ v. Goes v j) e.0 ∙ ap (Goes t) e.1
-  at_budget (Failed u j fault) e = absurd (not_budget fault e.2)
+  at_budget : (x : Standing Identifiers) → EndsAs x new t Budget → going_of x ≡ Goes t new.identifiers
+  at_budget x e = let r = running_there new t x e in ap going_of r.0 ∙ goes_running t new.identifiers r.1
 
-  pub at_halt : (x : Standing Identifiers) → EndsAs x new t Halted → going_of x ≡ Ends t new.identifiers came.Halted
-  at_halt (Stands u j) e =
-      ends_halted u j (ap (λ (v : State). v.halted) e.0 ∙ has_halted t.halted e.2)
-      ∙ ap (λ v. Ends v j came.Halted) e.0 ∙ ap (λ k. Ends t k came.Halted) e.1
-  at_halt (Failed u j fault) e = absurd (not_halted fault e.2)
+  at_halt : (x : Standing Identifiers) → EndsAs x new t Halted → going_of x ≡ Ends t new.identifiers came.Halted
+  at_halt x e = let r = halted_there new t x e in ap going_of r.0 ∙ ends_halted t new.identifiers r.1
 
-  pub at_fault : (stop : Stop) (x : Standing Identifiers) → stop ≢ Budget → stop ≢ Halted → EndsAs x new t stop →
+  at_fault : (stop : Stop) (x : Standing Identifiers) → stop ≢ Budget → stop ≢ Halted → EndsAs x new t stop →
       going_of x ≡ Ends t new.identifiers (came.Failed stop)
-  at_fault stop (Stands u j) budget halted e = absurd (neither t.halted stop budget halted e.2)
-  at_fault stop (Failed u j fault) budget halted e =
-      ap (λ v. Ends v j (came.Failed (stop_of fault))) e.0
-      ∙ ap (λ k. Ends t k (came.Failed (stop_of fault))) e.1
-      ∙ ap (λ why. Ends t new.identifiers (came.Failed why)) (sym e.2)
+  at_fault stop x budget halted e =
+      let r = failed_there new t stop x budget halted e in
+      ap going_of r.1 ∙ ap (λ why. Ends t new.identifiers (came.Failed why)) (sym r.2)
 
 pub came_to : (x y : Going) (j : Identifiers) (t : State) (why : Came) → x ≡ y → CameTo y j t why → CameTo x j t why
 came_to x y j t why e c = subst (λ z. CameTo z j t why) (sym e) c
