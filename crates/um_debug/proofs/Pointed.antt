@@ -173,12 +173,12 @@ module _ (points : Points) (k : ℕ) (before between now : Seen) (same : between
       then_by (λ u t. RunEnds 1 between.machine now.machine u t Budget)
       (λ s t. goes_for before.machine.limits points (k + 1) before.machine.identifiers s ≡ Goes t now.machine.identifiers)
       (λ s u t first e at_u at_t.
-          more s u first t (Goes t now.machine.identifiers)
-          (after_running points now.machine u t (ruled between.machine.limits 1 between.machine.identifiers u) e
-          ∙ ap (λ a. going_on t now.machine.identifiers (seen_at points a t.arrays t.finger)) (ap (λ (v : State). v.arrays) at_u)
-          ∙ ap (λ a. going_on t now.machine.identifiers (seen_at points between.machine.arrays a t.finger)) (ap (λ (v : State). v.arrays) at_t)
-          ∙ ap (λ a. going_on t now.machine.identifiers (seen_at points between.machine.arrays now.machine.arrays a)) (ap (λ (v : State). v.finger) at_t)
-          ∙ ap (going_on t now.machine.identifiers) unseen)) cycle
+      more s u first t (Goes t now.machine.identifiers)
+      (after_running points now.machine u t (ruled between.machine.limits 1 between.machine.identifiers u) e
+      ∙ ap (λ a. going_on t now.machine.identifiers (seen_at points a t.arrays t.finger)) (ap (λ (v : State). v.arrays) at_u)
+      ∙ ap (λ a. going_on t now.machine.identifiers (seen_at points between.machine.arrays a t.finger)) (ap (λ (v : State). v.arrays) at_t)
+      ∙ ap (λ a. going_on t now.machine.identifiers (seen_at points between.machine.arrays now.machine.arrays a)) (ap (λ (v : State). v.finger) at_t)
+      ∙ ap (going_on t now.machine.identifiers) unseen)) cycle
 
   module _ (n : ℕ) (fewer : k < n) (input output : Type 0) where
     ended : (s u : State) → First s u → (t : State) (why : Came) →
@@ -199,12 +199,12 @@ module _ (points : Points) (k : ℕ) (before between now : Seen) (same : between
         then_by (λ u t. RunEnds 1 between.machine now.machine u t Budget)
         (λ s t. Course points n input output before.machine now.machine s t (Ok why))
         (λ s u t first e at_u at_t.
-            ended s u first t why
-            (after_running points now.machine u t (ruled between.machine.limits 1 between.machine.identifiers u) e
-            ∙ ap (λ a. going_on t now.machine.identifiers (seen_at points a t.arrays t.finger)) (ap (λ (v : State). v.arrays) at_u)
-            ∙ ap (λ a. going_on t now.machine.identifiers (seen_at points between.machine.arrays a t.finger)) (ap (λ (v : State). v.arrays) at_t)
-            ∙ ap (λ a. going_on t now.machine.identifiers (seen_at points between.machine.arrays now.machine.arrays a)) (ap (λ (v : State). v.finger) at_t)
-            ∙ ap (going_on t now.machine.identifiers) seen)) cycle
+        ended s u first t why
+        (after_running points now.machine u t (ruled between.machine.limits 1 between.machine.identifiers u) e
+        ∙ ap (λ a. going_on t now.machine.identifiers (seen_at points a t.arrays t.finger)) (ap (λ (v : State). v.arrays) at_u)
+        ∙ ap (λ a. going_on t now.machine.identifiers (seen_at points between.machine.arrays a t.finger)) (ap (λ (v : State). v.arrays) at_t)
+        ∙ ap (λ a. going_on t now.machine.identifiers (seen_at points between.machine.arrays now.machine.arrays a)) (ap (λ (v : State). v.finger) at_t)
+        ∙ ap (going_on t now.machine.identifiers) seen)) cycle
 
     -- it halted
     pub came_halted : GoesFromTo between now (λ u t. RunEnds 1 between.machine now.machine u t Halted) →
@@ -213,8 +213,8 @@ module _ (points : Points) (k : ℕ) (before between now : Seen) (same : between
         then_by (λ u t. RunEnds 1 between.machine now.machine u t Halted)
         (λ s t. Course points n input output before.machine now.machine s t (Ok came.Halted))
         (λ s u t first e at_u at_t.
-            ended s u first t came.Halted
-            (after_halt points now.machine u t (ruled between.machine.limits 1 between.machine.identifiers u) e)) cycle
+        ended s u first t came.Halted
+        (after_halt points now.machine u t (ruled between.machine.limits 1 between.machine.identifiers u) e)) cycle
 
     -- it failed
     cut : (stop : Stop) (s u t : State) → First s u → EndsEarly 1 between.machine now.machine u t stop →
