@@ -1,2 +1,4 @@
 pub mod Spaces
 pub mod Naming
+pub mod Taking
+pub mod Spacing
