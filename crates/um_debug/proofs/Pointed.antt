@@ -20,6 +20,7 @@ use Rattle.um_debug.specs.declared.debugger.DebugEnd.{DebugEnd}
 use Rattle.um_debug.specs.Replies.{word_at}
 use Rattle.um_debug.specs.Course.{Points, Going, Goes, Ends, after_cycle, going_on, is_same_word, first_change, by_change, broke, seen_at, one_more, goes_for, IsCutShort}
 use Rattle.um_debug.specs.inner.Calls.{CameTo, Course, AreWords, came_by}
+use Rattle.um_debug.proofs.Placing.{IsAt, placed, no_call}
 use Rattle.um_debug.proofs.Going.{came_to, running_there, halted_there, failed_there}
 
 -- what cycles came to stays
@@ -103,30 +104,6 @@ words_kept points before after finger words are e k place at =
     are k place at ∙ ap Some (unchanged before after place points.watches
     (none_changed before after (first_change before after points.watches) (broke points finger) e) k at)
 
--- a state stands where a machine stands
-abbrev pub IsAt : MachineView → State → Type 0
-IsAt m s = s ≡ state_of m s.rest s.out
-
-pub placed : (before now : Seen) (Call : State → State → Type 0) → GoesFromTo before now Call →
-    GoesFromTo before now (λ s t. Call s t × IsAt before.machine s × IsAt now.machine t)
-placed before now Call call left may =
-    let took : Took before now left Call = call left may in
-    record {
-      rest = took.rest;
-      may = took.may;
-      sends = λ held holds.
-          let x = took.sends held holds in
-          record { out = x.out; may = x.may; call = (x.call, refl, refl) };
-    }
-
--- a call that does nothing
-pub no_call : (x : Seen) (Call : State → State → Type 0) → ((s : State) → Call s s) → GoesFromTo x x Call
-no_call x Call call left may = record {
-  rest = left;
-  may = may;
-  sends = λ held holds. record { out = held; may = holds; call = call (state_of x.machine left held) };
-}
-
 -- so many cycles were made, and go on
 abbrev pub Went : Points → ℕ → (before now : Seen) → Type 0
 Went points k before now =
@@ -135,7 +112,7 @@ Went points k before now =
 pub none_went : (points : Points) (x : Seen) → Went points 0 x x
 unfolding goes_for
 none_went points x =
-    no_call x (λ s t. goes_for x.machine.limits points 0 x.machine.identifiers s ≡ Goes t x.machine.identifiers) (λ s. refl)
+    no_call x (λ s t. goes_for x.machine.limits points 0 x.machine.identifiers s ≡ Goes t x.machine.identifiers) (λ rest out. refl)
 
 pub all_went : (points : Points) (n : ℕ) (input output : Type 0) (before now : Seen) → Went points n before now →
     GoesFromTo before now (λ s t. Course points n input output before.machine now.machine s t (Ok came.Stopped))

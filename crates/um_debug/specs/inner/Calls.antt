@@ -102,7 +102,7 @@ pub record IsAnswer (answer : Answer) (now : Session) (reply : List ℕ) : Type 
 -- cycles that looked at these points failed, or there was no memory for the reply
 pub data CyclesFail (points : Points) (n : ℕ) (input output : Type 0) (old new : MachineView) (s t : State) :
     DebugEnd → Type 0 where
-  at_cycle : (why : Stop) (end : DebugEnd) → s.cycles + n ≤ most_cycles →
+  cycle_failed : (why : Stop) (end : DebugEnd) → s.cycles + n ≤ most_cycles →
       IsCutShort old.limits points n old.identifiers s why new.identifiers t → EndsBy input output why end →
       CyclesFail points n input output old new s t end
   no_memory : ((p : Points) → (cycles_answer old.limits points n (session_of old s p)).session ≡ session_of new t p) →
@@ -125,10 +125,10 @@ MayAsk command = Unit {0}
 -- a command failed in one of its cycles, or there was no memory for its reply
 pub data CommandFails (L : Limits) (command : Command) (s : Session) (input output : Type 0) (j : Identifiers) (t : State) :
     DebugEnd → Type 0 where
-  at_cycle : (why : Stop) (end : DebugEnd) → s.state.cycles + cycles_of command ≤ most_cycles →
+  command_failed : (why : Stop) (end : DebugEnd) → s.state.cycles + cycles_of command ≤ most_cycles →
       IsCutShort L (looks_at command s.points) (cycles_of command) s.identifiers s.state why j t → EndsBy input output why end →
       CommandFails L command s input output j t end
-  no_memory : j ≡ (answer L command s).session.identifiers → t ≡ (answer L command s).session.state →
+  no_reply : j ≡ (answer L command s).session.identifiers → t ≡ (answer L command s).session.state →
       CommandFails L command s input output j t ends.Memory
 
 -- what a command comes to, before its reply goes out

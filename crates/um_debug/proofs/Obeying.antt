@@ -1,0 +1,100 @@
+-- Lines that are answered.
+use Rattle.std.proofs.Common.{◌≡◌, ℕ, zero, ◌≤◌, List, [], ◌++◌, refl, sym, ap, ◌∙◌, subst, length, take, arith}
+use Rattle.std.specs.Prelude.{Result, Ok, Err, Some, Vec}
+use Rattle.std.specs.declared.alloc.Global.{Global}
+use Rattle.std.proofs.lemmas.List.{append-nil}
+use Rattle.um_word.specs.State.{State}
+use Rattle.um_word.specs.Rule.{Identifiers}
+use Rattle.um_machine.specs.MachineView.{MachineView}
+use Rattle.umix_base.specs.declared.limits.Limits.{Limits}
+use Rattle.um_debug.specs.declared.command.Command.{Command}
+use Rattle.um_debug.specs.declared.debugger.DebugEnd.{DebugEnd}
+use Rattle.um_debug.specs.declared.debugger.DebugEnd.TheVariants as ends
+use Rattle.um_debug.specs.Commands as commands
+use Rattle.um_debug.specs.Commands.{IsCommand}
+use Rattle.um_debug.specs.Course.{Points}
+use Rattle.um_debug.specs.Replies.{unknown_text}
+use Rattle.um_debug.specs.Session.{Session, Answer, Answers, known, unknown, answer, tells, sent, after}
+use Rattle.um_debug.specs.Debugging as debugging
+use Rattle.um_debug.specs.Debugging.{FailsAtReply, Fails}
+use Rattle.um_debug.specs.inner.Calls as calls
+use Rattle.um_debug.specs.inner.Calls.{MayAsk, IsAnswer, session_of, CommandFails, CommandEnds, AnswerEnds, ObeyEnds}
+use Rattle.um_debug.proofs.Placing.{IsBehind}
+
+-- what a line asks for may be asked for
+pub may_ask : (line : List ℕ) (command : Command) → IsCommand line command → MayAsk command
+may_ask _ _ (commands.step n is) = is.0
+may_ask _ _ (commands.go n is) = is.0
+may_ask _ _ (commands.breakpoint offset small) = tt
+may_ask _ _ (commands.watch id offset a b) = tt
+may_ask _ _ commands.registers = tt
+may_ask _ _ (commands.words id offset n a b least most fits) = (least, fits)
+may_ask _ _ commands.finger = tt
+may_ask _ _ commands.quit = tt
+
+nothing_out : (s : State) (piece : List ℕ) → s ≡ record s { out = s.out ++ take 0 piece }
+nothing_out s piece = λ i. record s { out = sym (append-nil s.out) i }
+
+-- the answer stands, but nothing of it went out
+unsent : (L : Limits) (line : List ℕ) (s : Session) (a : Answer) (j : Identifiers) (t : State) → Answers L line s a →
+    j ≡ a.session.identifiers → t ≡ a.session.state → FailsAtReply L line s 0 j t
+unsent L line s a j t answers ids state = record {
+  answer = a;
+  answers = answers;
+  identifiers_are = ids;
+  begun = omega arith;
+  state_is = state ∙ nothing_out a.session.state (sent a.reply);
+}
+
+module _ (line : List ℕ) (input output : Type 0) (old new : MachineView) (before now : Points) (s t : State) where
+  known_fails : (command : Command) → IsCommand line command → (end : DebugEnd) →
+      CommandFails old.limits command (session_of old s before) input output new.identifiers t end →
+      Fails old.limits line (session_of old s before) input output new.identifiers t end
+  known_fails command is _ (calls.command_failed why end few cut cause) =
+      debugging.at_cycle why end (record { command = command; is_command = is; allowed = few; cut = cut }) cause
+  known_fails command is _ (calls.no_reply ids state) =
+      debugging.no_memory (unsent old.limits line (session_of old s before) (answer old.limits command (session_of old s before))
+      new.identifiers t (known command is) ids state)
+
+  -- a line that is a command
+  pub known_ends : (command : Command) → IsCommand line command → (r : Result (Vec ℕ Global) DebugEnd) →
+      CommandEnds command input output old new before now s t r → AnswerEnds line input output old new before now s t r
+  known_ends command is (Ok reply) e = (answer old.limits command (session_of old s before), known command is, e)
+  known_ends command is (Err end) e = known_fails command is end e
+
+  -- a reply went out
+  pub obeyed : (u : State) (reply : Vec ℕ Global) → AnswerEnds line input output old new before now s u (Ok reply) →
+      IsBehind reply.items u t → ObeyEnds line input output old new before now s t (Ok tt)
+  obeyed u reply e behind = (
+    e.0,
+    e.1,
+    ap (λ (x : Session). record x { state = record x.state { out = x.state.out ++ sent e.0.reply } }) e.2.session_is
+    ∙ ap (λ r. session_of new (record u { out = u.out ++ r }) now) (sym e.2.reply_is)
+    ∙ ap (λ v. session_of new v now) (sym behind),
+  )
+
+  -- of a reply the first k bytes went out
+  pub cut_off : (u : State) (reply : Vec ℕ Global) (k : ℕ) → k ≤ length reply.items → output →
+      AnswerEnds line input output old new before now s u (Ok reply) → IsBehind (take k reply.items) u t →
+      ObeyEnds line input output old new before now s t (Err ends.WriteFault)
+  cut_off u reply k le cause e behind = debugging.at_reply k (record {
+    answer = e.0;
+    answers = e.1;
+    identifiers_are = sym (ap (λ (x : Session). x.identifiers) e.2.session_is);
+    begun = subst (λ r. k ≤ length r) e.2.reply_is le;
+    state_is =
+        behind ∙ ap (λ r. record u { out = u.out ++ take k r }) e.2.reply_is
+        ∙ ap (λ (v : State). record v { out = v.out ++ take k (sent e.0.reply) }) (sym (ap (λ (x : Session). x.state) e.2.session_is));
+  }) cause
+
+-- a line that is no command
+module _ (line : List ℕ) (input output : Type 0) (m : MachineView) (p : Points) (s : State)
+    (no : (command : Command) → IsCommand line command → ⊥) where
+  pub unknown_told : (reply : Vec ℕ Global) → reply.items ≡ sent (Some unknown_text) →
+      AnswerEnds line input output m m p p s s (Ok reply)
+  unknown_told reply e =
+      (tells unknown_text (session_of m s p), unknown no, record { session_is = refl; reply_is = e })
+
+  pub unknown_untold : AnswerEnds line input output m m p p s s (Err ends.Memory)
+  unknown_untold =
+      debugging.no_memory (unsent m.limits line (session_of m s p) (tells unknown_text (session_of m s p)) m.identifiers s (unknown no) refl refl)
