@@ -16,9 +16,9 @@ use Rattle.um_debug.specs.declared.debugger.DebugEnd.TheVariants as ends
 use Rattle.um_debug.specs.Commands.{most_cycles}
 use Rattle.um_debug.specs.Course.{Points, no_points, Going, Goes, Ends, goes_for}
 use Rattle.um_debug.specs.Replies.{came_text, unknown_text}
-use Rattle.um_debug.specs.Session.{Session, Answer, Toggled, Off, On, Full, sent, tells, answer_of, cycles_answer, toggle_answer}
+use Rattle.um_debug.specs.Session.{Session, Answer, Toggled, Off, On, Full, sent, tells, answer, answer_of, cycles_answer, toggle_answer}
 use Rattle.um_debug.specs.inner.Calls as calls
-use Rattle.um_debug.specs.inner.Calls.{CameTo, Course, IsAnswer, session_of, CyclesFail, CyclesEnd, CommandFails, CommandEnds}
+use Rattle.um_debug.specs.inner.Calls.{CameTo, Course, Sets, toggle_text, IsAnswer, session_of, CyclesFail, CyclesEnd, CommandFails, CommandEnds}
 use Rattle.um_machine.specs.Runs.{Seen, GoesFromTo}
 use Rattle.um_machine.proofs.Joined.{weakened}
 use Rattle.um_debug.proofs.Placing.{IsAt, placed, no_call}
@@ -168,3 +168,51 @@ module _ (points : Points) (n : ℕ) (input output : Type 0) (before now : Seen)
   call_cut end =
       by_course (Err end) (Err end)
       (λ s t small at c. cycles_cut points n input output before.machine now.machine s t small end c)
+
+-- commands over calls
+pub call_stepped : (n : ℕ) (input output : Type 0) (before now : Seen) (p : Points) (r : Result (Vec ℕ Global) DebugEnd) →
+    GoesFromTo before now (λ s t. CyclesEnd no_points n input output before.machine now.machine s t r) →
+    GoesFromTo before now (λ s t. CommandEnds (Step n) input output before.machine now.machine p p s t r)
+call_stepped n input output before now p r =
+    weakened before now (λ s t. CyclesEnd no_points n input output before.machine now.machine s t r)
+    (λ s t. CommandEnds (Step n) input output before.machine now.machine p p s t r)
+    (λ s t. step_ends n input output before.machine now.machine p s t r)
+
+pub call_gone : (n : ℕ) (input output : Type 0) (before now : Seen) (p : Points) (r : Result (Vec ℕ Global) DebugEnd) →
+    GoesFromTo before now (λ s t. CyclesEnd p n input output before.machine now.machine s t r) →
+    GoesFromTo before now (λ s t. CommandEnds (Go n) input output before.machine now.machine p p s t r)
+call_gone n input output before now p r =
+    weakened before now (λ s t. CyclesEnd p n input output before.machine now.machine s t r)
+    (λ s t. CommandEnds (Go n) input output before.machine now.machine p p s t r)
+    (λ s t. go_ends n input output before.machine now.machine p s t r)
+
+-- a command that makes no cycles, for whose reply there is no memory
+pub call_unsaid : (command : Command) (input output : Type 0) (x : Seen) (p q : Points) →
+    ((s : Session) → (s.identifiers ≡ (answer x.machine.limits command s).session.identifiers) × (s.state ≡ (answer x.machine.limits command s).session.state)) →
+    GoesFromTo x x (λ s t. CommandEnds command input output x.machine x.machine p q s t (Err ends.Memory))
+call_unsaid command input output x p q keeps =
+    no_call x (λ s t. CommandEnds command input output x.machine x.machine p q s t (Err ends.Memory))
+    (λ rest out. let k = keeps (session_of x.machine (state_of x.machine rest out) p) in calls.no_reply k.0 k.1)
+
+-- one whose reply is there
+pub call_said : (command : Command) (input output : Type 0) (x : Seen) (p q : Points) (reply : Vec ℕ Global) →
+    ((rest out : List ℕ) → IsAnswer (answer x.machine.limits command (session_of x.machine (state_of x.machine rest out) p))
+    (session_of x.machine (state_of x.machine rest out) q) reply.items) →
+    GoesFromTo x x (λ s t. CommandEnds command input output x.machine x.machine p q s t (Ok reply))
+call_said command input output x p q reply is =
+    no_call x (λ s t. CommandEnds command input output x.machine x.machine p q s t (Ok reply)) is
+
+pub setting : {A : Type 0} (what : List ℕ) (s : Session) (points : List A → Points) (x : Toggled A) (now : Points) (reply : List ℕ) →
+    Sets what x s.points points now reply → IsAnswer (toggle_answer what s points x) (record s { points = now }) reply
+setting what s points (Off xs) now reply e = record {
+  session_is = ap (λ p. record s { points = p }) (sym e.1.1);
+  reply_is = e.2 ∙ ap (λ b. toggle_text what b ++ codes "\n") e.1.0;
+}
+setting what s points (On xs) now reply e = record {
+  session_is = ap (λ p. record s { points = p }) (sym e.1.1);
+  reply_is = e.2 ∙ ap (λ b. toggle_text what b ++ codes "\n") e.1.0;
+}
+setting what s points Full now reply e = record {
+  session_is = ap (λ p. record s { points = p }) (sym e.1.1);
+  reply_is = e.2 ∙ ap (λ b. toggle_text what b ++ codes "\n") e.1.0;
+}
