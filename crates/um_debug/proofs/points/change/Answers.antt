@@ -1,4 +1,4 @@
-use Rattle.std.proofs.Common.{rules, ◌≡◌, ◌∙◌, ap, sym, not, arith, true, subst, refl}
+use Rattle.std.proofs.Common.{rules, not}
 use Rattle.std.proofs.lemmas.Fn.{filter_same}
 use Rattle.um_debug.proofs.Toggles.{became_off}
 use Rattle.um_debug.proofs.points.change.Goals as goal

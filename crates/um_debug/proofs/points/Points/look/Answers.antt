@@ -1,5 +1,4 @@
-use Rattle.std.proofs.Common.{◌≡◌, ◌<◌, ◌≤◌, Bool, cond, length, get_or, Option, Some, None, sym, ap, ◌∙◌, arith, refl}
-use Rattle.um_debug.specs.declared.course.Came.{Came}
+use Rattle.std.proofs.Common.{◌≡◌, Bool, cond, length, get_or, Some, None, sym, ap, ◌∙◌, arith, refl}
 use Rattle.um_debug.specs.declared.course.Came.TheVariants as came
 use Rattle.um_debug.specs.Course.{Points, broke}
 use Rattle.um_debug.proofs.Watching.{goes_on, change_seen, none_changed}

@@ -1,4 +1,4 @@
-use Rattle.std.proofs.Common.{◌≡◌, ◌==◌, ℕ, List, refl, subst}
+use Rattle.std.proofs.Common.{◌==◌, ℕ, List, refl, subst}
 use Rattle.std.specs.Prelude.{IfOk}
 use Rattle.um_debug.specs.Course.{Points}
 use Rattle.um_debug.specs.Session.{toggled, most_breakpoints}

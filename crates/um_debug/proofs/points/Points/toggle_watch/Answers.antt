@@ -1,4 +1,4 @@
-use Rattle.std.proofs.Common.{◌≡◌, List, refl, subst}
+use Rattle.std.proofs.Common.{List, refl, subst}
 use Rattle.std.specs.Prelude.{IfOk}
 use Rattle.um_debug.specs.declared.command.WordPlace.{WordPlace}
 use Rattle.um_debug.specs.Course.{Points}
