@@ -7,3 +7,5 @@ pub mod Placing
 pub mod Pointed
 pub mod Answering
 pub mod Obeying
+pub mod Toggles
+pub mod Watching

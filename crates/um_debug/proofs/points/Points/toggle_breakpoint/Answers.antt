@@ -1,14 +1,22 @@
-use Rattle.std.proofs.Common.{rules, ◌≡◌, ◌≤◌, ◌<◌, ◌==◌, List, [], length, OnErr, IfOk, MatchBool, ℕ, ◌+◌, ◌-◌, ◌*◌, ◌/◌, ◌%◌, Bool, true, false, nat_eq, nat_lt, ◌∷◌, ◌++◌, slice_index_or, slice_set, bit_and, bit_or, Fits, w8, w32, w64, Bor, MutBor}
-use Rattle.um_word.specs.State.{Arrays}
-use Rattle.um_debug.specs.Course.{no_points, seen_at}
-use Rattle.um_debug.specs.Session.{toggled, is_place, most_breakpoints, most_watches}
-use Rattle.um_debug.specs.inner.Calls.{AreWords, Changes}
+use Rattle.std.proofs.Common.{◌==◌, ℕ, List, refl, subst}
+use Rattle.std.specs.Prelude.{IfOk}
+use Rattle.um_debug.specs.Course.{Points}
+use Rattle.um_debug.specs.Session.{toggled, most_breakpoints}
+use Rattle.um_debug.specs.inner.Calls.{Changes}
+use Rattle.um_debug.proofs.Toggles.{changes, unchanged}
 use Rattle.um_debug.proofs.points.Points.toggle_breakpoint.Goals as goal
 
--- src/points.rt:74:5
 pub returns-clause-ok : goal.returns-clause-ok
-returns-clause-ok c = ?
+returns-clause-ok c =
+    subst (λ (p : Points). IfOk c.change.result (Changes (toggled (λ other. other == c.args.offset) most_breakpoints c.args.offset p.breakpoints) p
+        (λ xs. record p { breakpoints = xs }) (record { breakpoints = c.change.new.list.items; watches = c.self.inside.watches.items })))
+    c.self.view_is
+    (changes (toggled (λ other. other == c.args.offset) most_breakpoints c.args.offset c.self.inside.breakpoints.items)
+        (record { breakpoints = c.self.inside.breakpoints.items; watches = c.self.inside.watches.items })
+        (λ (xs : List ℕ). record { breakpoints = xs; watches = c.self.inside.watches.items })
+        c.self.inside.breakpoints.items c.change.new.list.items c.change.result refl c.change.ensures.ok)
 
--- src/points.rt:74:5
 pub returns-clause-err : goal.returns-clause-err
-returns-clause-err c = ?
+returns-clause-err c =
+    unchanged c.args.self.now (λ (xs : List ℕ). record { breakpoints = xs; watches = c.self.inside.watches.items })
+    c.self.inside.breakpoints.items c.change.new.list.items c.change.result c.self.view_is c.change.ensures.err

@@ -1,18 +1,28 @@
-use Rattle.std.proofs.Common.{rules, ◌≡◌, ◌≤◌, ◌<◌, ◌==◌, List, [], length, OnErr, IfOk, MatchBool, ℕ, ◌+◌, ◌-◌, ◌*◌, ◌/◌, ◌%◌, Bool, true, false, nat_eq, nat_lt, ◌∷◌, ◌++◌, slice_index_or, slice_set, bit_and, bit_or, Fits, w8, w32, w64, Bor, MutBor}
-use Rattle.um_word.specs.State.{Arrays}
-use Rattle.um_debug.specs.Course.{no_points, seen_at}
-use Rattle.um_debug.specs.Session.{toggled, is_place, most_breakpoints, most_watches}
-use Rattle.um_debug.specs.inner.Calls.{AreWords, Changes}
+use Rattle.std.proofs.Common.{List, refl, subst}
+use Rattle.std.specs.Prelude.{IfOk}
+use Rattle.um_debug.specs.declared.command.WordPlace.{WordPlace}
+use Rattle.um_debug.specs.Course.{Points}
+use Rattle.um_debug.specs.Session.{toggled, is_place, most_watches}
+use Rattle.um_debug.specs.inner.Calls.{Changes}
+use Rattle.um_debug.proofs.Toggles.{changes, unchanged, still_few}
 use Rattle.um_debug.proofs.points.Points.toggle_watch.Goals as goal
 
--- src/points.rt:84:5
 pub invariant_of-self : goal.invariant_of-self
-invariant_of-self c = ?
+invariant_of-self c =
+    still_few (is_place c.args.place) most_watches c.args.place c.self.inside.watches.items c.change.new.list.items c.change.result
+    c.change.ensures.ok c.change.ensures.err c.self.invariant
 
--- src/points.rt:84:5
 pub returns-clause-ok : goal.returns-clause-ok
-returns-clause-ok c = ?
+returns-clause-ok c =
+    subst (λ (p : Points). IfOk c.change.result (Changes (toggled (is_place c.args.place) most_watches c.args.place p.watches) p
+        (λ xs. record p { watches = xs }) (record { breakpoints = c.self.inside.breakpoints.items; watches = c.change.new.list.items })))
+    c.self.view_is
+    (changes (toggled (is_place c.args.place) most_watches c.args.place c.self.inside.watches.items)
+        (record { breakpoints = c.self.inside.breakpoints.items; watches = c.self.inside.watches.items })
+        (λ (xs : List WordPlace). record { breakpoints = c.self.inside.breakpoints.items; watches = xs })
+        c.self.inside.watches.items c.change.new.list.items c.change.result refl c.change.ensures.ok)
 
--- src/points.rt:84:5
 pub returns-clause-err : goal.returns-clause-err
-returns-clause-err c = ?
+returns-clause-err c =
+    unchanged c.args.self.now (λ (xs : List WordPlace). record { breakpoints = c.self.inside.breakpoints.items; watches = xs })
+    c.self.inside.watches.items c.change.new.list.items c.change.result c.self.view_is c.change.ensures.err
