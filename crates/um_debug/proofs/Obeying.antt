@@ -5,7 +5,9 @@ use Rattle.std.specs.declared.alloc.Global.{Global}
 use Rattle.std.proofs.lemmas.List.{append-nil}
 use Rattle.um_word.specs.State.{State}
 use Rattle.um_word.specs.Rule.{Identifiers}
-use Rattle.um_machine.specs.MachineView.{MachineView}
+use Rattle.um_machine.specs.MachineView.{MachineView, state_of}
+use Rattle.um_machine.specs.Runs.{Seen, GoesFromTo}
+use Rattle.um_machine.proofs.Joined.{joined, weakened}
 use Rattle.umix_base.specs.declared.limits.Limits.{Limits}
 use Rattle.um_debug.specs.declared.command.Command.{Command}
 use Rattle.um_debug.specs.declared.debugger.DebugEnd.{DebugEnd}
@@ -19,7 +21,7 @@ use Rattle.um_debug.specs.Debugging as debugging
 use Rattle.um_debug.specs.Debugging.{FailsAtReply, Fails}
 use Rattle.um_debug.specs.inner.Calls as calls
 use Rattle.um_debug.specs.inner.Calls.{MayAsk, IsAnswer, session_of, CommandFails, CommandEnds, AnswerEnds, ObeyEnds}
-use Rattle.um_debug.proofs.Placing.{IsBehind}
+use Rattle.um_debug.proofs.Placing.{IsBehind, no_call, went_out}
 
 -- what a line asks for may be asked for
 pub may_ask : (line : List ℕ) (command : Command) → IsCommand line command → MayAsk command
@@ -57,7 +59,7 @@ module _ (line : List ℕ) (input output : Type 0) (old new : MachineView) (befo
       new.identifiers t (known command is) ids state)
 
   -- a line that is a command
-  pub known_ends : (command : Command) → IsCommand line command → (r : Result (Vec ℕ Global) DebugEnd) →
+  known_ends : (command : Command) → IsCommand line command → (r : Result (Vec ℕ Global) DebugEnd) →
       CommandEnds command input output old new before now s t r → AnswerEnds line input output old new before now s t r
   known_ends command is (Ok reply) e = (answer old.limits command (session_of old s before), known command is, e)
   known_ends command is (Err end) e = known_fails command is end e
@@ -90,11 +92,33 @@ module _ (line : List ℕ) (input output : Type 0) (old new : MachineView) (befo
 -- a line that is no command
 module _ (line : List ℕ) (input output : Type 0) (m : MachineView) (p : Points) (s : State)
     (no : (command : Command) → IsCommand line command → ⊥) where
-  pub unknown_told : (reply : Vec ℕ Global) → reply.items ≡ sent (Some unknown_text) →
+  unknown_told : (reply : Vec ℕ Global) → reply.items ≡ sent (Some unknown_text) →
       AnswerEnds line input output m m p p s s (Ok reply)
   unknown_told reply e =
       (tells unknown_text (session_of m s p), unknown no, record { session_is = refl; reply_is = e })
 
-  pub unknown_untold : AnswerEnds line input output m m p p s s (Err ends.Memory)
+  unknown_untold : AnswerEnds line input output m m p p s s (Err ends.Memory)
   unknown_untold =
       debugging.no_memory (unsent m.limits line (session_of m s p) (tells unknown_text (session_of m s p)) m.identifiers s (unknown no) refl refl)
+
+-- the same, of calls
+pub call_known : (line : List ℕ) (input output : Type 0) (x y : Seen) (before now : Points) (command : Command) → IsCommand line command →
+    (r : Result (Vec ℕ Global) DebugEnd) →
+    GoesFromTo x y (λ s t. CommandEnds command input output x.machine y.machine before now s t r) →
+    GoesFromTo x y (λ s t. AnswerEnds line input output x.machine y.machine before now s t r)
+call_known line input output x y before now command is r =
+    weakened x y (λ s t. CommandEnds command input output x.machine y.machine before now s t r)
+    (λ s t. AnswerEnds line input output x.machine y.machine before now s t r)
+    (λ s t. known_ends line input output x.machine y.machine before now s t command is r)
+
+module _ (line : List ℕ) (input output : Type 0) (x : Seen) (p : Points) (no : (command : Command) → IsCommand line command → ⊥) where
+  pub call_unknown : (reply : Vec ℕ Global) → reply.items ≡ sent (Some unknown_text) →
+      GoesFromTo x x (λ s t. AnswerEnds line input output x.machine x.machine p p s t (Ok reply))
+  call_unknown reply e =
+      no_call x (λ s t. AnswerEnds line input output x.machine x.machine p p s t (Ok reply))
+      (λ rest out. unknown_told line input output x.machine p (state_of x.machine rest out) no reply e)
+
+  pub call_unknown_untold : GoesFromTo x x (λ s t. AnswerEnds line input output x.machine x.machine p p s t (Err ends.Memory))
+  call_unknown_untold =
+      no_call x (λ s t. AnswerEnds line input output x.machine x.machine p p s t (Err ends.Memory))
+      (λ rest out. unknown_untold line input output x.machine p (state_of x.machine rest out) no)
