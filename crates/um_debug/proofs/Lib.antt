@@ -9,3 +9,4 @@ pub mod Answering
 pub mod Obeying
 pub mod Toggles
 pub mod Watching
+pub mod Debugged

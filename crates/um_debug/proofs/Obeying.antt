@@ -1,6 +1,6 @@
 -- Lines that are answered.
 use Rattle.std.proofs.Common.{◌≡◌, ℕ, zero, ◌≤◌, List, [], ◌++◌, refl, sym, ap, ◌∙◌, subst, length, take, arith}
-use Rattle.std.specs.Prelude.{Result, Ok, Err, Some, Vec}
+use Rattle.std.specs.Prelude.{Result, Ok, Err, Option, Some, Vec, option_map}
 use Rattle.std.specs.declared.alloc.Global.{Global}
 use Rattle.std.proofs.lemmas.List.{append-nil}
 use Rattle.um_word.specs.State.{State}
@@ -65,7 +65,7 @@ module _ (line : List ℕ) (input output : Type 0) (old new : MachineView) (befo
   known_ends command is (Err end) e = known_fails command is end e
 
   -- a reply went out
-  pub obeyed : (u : State) (reply : Vec ℕ Global) → AnswerEnds line input output old new before now s u (Ok reply) →
+  obeyed : (u : State) (reply : Vec ℕ Global) → AnswerEnds line input output old new before now s u (Ok reply) →
       IsBehind reply.items u t → ObeyEnds line input output old new before now s t (Ok tt)
   obeyed u reply e behind = (
     e.0,
@@ -76,7 +76,7 @@ module _ (line : List ℕ) (input output : Type 0) (old new : MachineView) (befo
   )
 
   -- of a reply the first k bytes went out
-  pub cut_off : (u : State) (reply : Vec ℕ Global) (k : ℕ) → k ≤ length reply.items → output →
+  cut_off : (u : State) (reply : Vec ℕ Global) (k : ℕ) → k ≤ length reply.items → output →
       AnswerEnds line input output old new before now s u (Ok reply) → IsBehind (take k reply.items) u t →
       ObeyEnds line input output old new before now s t (Err ends.WriteFault)
   cut_off u reply k le cause e behind = debugging.at_reply k (record {
@@ -122,3 +122,32 @@ module _ (line : List ℕ) (input output : Type 0) (x : Seen) (p : Points) (no :
   call_unknown_untold =
       no_call x (λ s t. AnswerEnds line input output x.machine x.machine p p s t (Err ends.Memory))
       (λ rest out. unknown_untold line input output x.machine p (state_of x.machine rest out) no)
+
+-- a line was answered, and then its reply went out, or a part of it
+module _ (line : List ℕ) (input output : Type 0) (x y : Seen) (before now : Points) (reply : Vec ℕ Global) (o : Option (List ℕ))
+    (answered : GoesFromTo x y (λ s t. AnswerEnds line input output x.machine y.machine before now s t (Ok reply))) where
+  abbrev Left : Seen
+  Left = record { machine = y.machine; input = y.input; output = o }
+
+  then_out : (bytes : List ℕ) (r : Result (Unit {0}) DebugEnd) → o ≡ option_map (λ held. held ++ bytes) y.output →
+      ((s u t : State) → AnswerEnds line input output x.machine y.machine before now s u (Ok reply) → IsBehind bytes u t →
+      ObeyEnds line input output x.machine y.machine before now s t r) →
+      GoesFromTo x Left (λ s t. ObeyEnds line input output x.machine y.machine before now s t r)
+  then_out bytes r e ends =
+      joined x y Left (λ s t. AnswerEnds line input output x.machine y.machine before now s t (Ok reply)) (IsBehind bytes)
+      (λ s t. ObeyEnds line input output x.machine y.machine before now s t r) ends answered
+      (went_out y.machine y.input y.output o bytes e)
+
+  pub call_obeyed : (piece : List ℕ) → piece ≡ reply.items → o ≡ option_map (λ held. held ++ piece) y.output →
+      GoesFromTo x Left (λ s t. ObeyEnds line input output x.machine y.machine before now s t (Ok tt))
+  call_obeyed piece is e =
+      then_out reply.items (Ok tt) (e ∙ ap (λ p. option_map (λ held. held ++ p) y.output) is)
+      (λ s u t a behind. obeyed line input output x.machine y.machine before now s t u reply a behind)
+
+  pub call_cut_off : (piece : List ℕ) → piece ≡ reply.items → output →
+      (k : ℕ) × (k ≤ length piece) × (o ≡ option_map (λ held. held ++ take k piece) y.output) →
+      GoesFromTo x Left (λ s t. ObeyEnds line input output x.machine y.machine before now s t (Err ends.WriteFault))
+  call_cut_off piece is cause e =
+      then_out (take e.0 reply.items) (Err ends.WriteFault) (e.2 ∙ ap (λ p. option_map (λ held. held ++ take e.0 p) y.output) is)
+      (λ s u t a behind. cut_off line input output x.machine y.machine before now s t u reply e.0
+      (subst (λ p. e.0 ≤ length p) is e.1) cause a behind)
