@@ -1,4 +1,6 @@
 use Rattle.std.proofs.Common.{◌≡◌, ◌+◌, ◌<◌, ℕ, List, [], ◌∷◌, ◌++◌, refl, sym, ap, ◌∙◌, subst, length, arith}
+use Rattle.std.proofs.lemmas.Bool.Decides.{Decides-eqb, not_from_Decides}
+use Rattle.std.proofs.lemmas.Slice.Eq.{slice_eq-Decides}
 use Rattle.um_machine.proofs.Rests.{rose_later}
 use Rattle.um_machine.specs.Runs.{seen_by}
 use Rattle.um_debug.specs.inner.Calls.{InputRose, OutputRose}
@@ -35,7 +37,7 @@ returns-then-eq-clause-session g c =
     let l = c.loop.invariant.lines in
     at_quit g.I.Source g.J.Source g.O.Sink c.args.turns _ _ l.0 c.loop.points _ c.loop.commands _ _ _ _ l.2 l.3
     (subst (λ k. k < c.args.turns) (sym l.1) c.loop-test.true) _ _ (rw c.in-Ok-Some.field-0-is at c.in-Ok-Some.ensures.takes)
-    (let e = c.eq.ensures in let f = c.if-eq.true in let h = c.as_slice.ensures in ?)
+    (sym c.bytes.ensures ∙ (slice_eq-Decides Decides-eqb _ _ _ c.eq.ensures).0 c.if-eq.true ∙ c.as_slice.ensures)
 
 pub returns-in-Err-obey-clause-session : goal.returns-in-Err-obey-clause-session
 returns-in-Err-obey-clause-session g c =
@@ -57,9 +59,10 @@ loop-preserved g c =
         l.0 ++ c.in-Ok-Some.line ∷ [],
         one_longer l.0 c.in-Ok-Some.line c.loop.counter l.1,
         one_passed _ (g.I.Source.rest c.loop.commands) _ l.0 c.in-Ok-Some.line l.2 took
-        (λ same. let e = c.eq.ensures in let f = c.if-eq.false in ?),
+        (λ same. not_from_Decides _ (slice_eq-Decides Decides-eqb _ _ _ c.eq.ensures) c.if-eq.false
+        (c.bytes.ensures ∙ same ∙ sym c.as_slice.ensures)),
         one_obeyed _ _ _ c.loop.points c.obey.new.points l.0 c.in-Ok-Some.line (InputRose g.J.Source c.loop.input c.obey.new.input)
-        (OutputRose g.O.Sink c.loop.out c.obey.new.out) c.loop.invariant.limits l.3 (let e = c.in_default.ensures in ?),
+        (OutputRose g.O.Sink c.loop.out c.obey.new.out) c.loop.invariant.limits l.3 (rw c.bytes-in-loop.ensures at c.in_default.ensures.ends),
       );
       limits = c.obey.ensures.limits ∙ c.loop.invariant.limits;
       commands = c.next_line.ensures.tells ∙ c.loop.invariant.commands;
