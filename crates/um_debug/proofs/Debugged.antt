@@ -1,6 +1,6 @@
 -- Sessions, line by line, and how they end.
-use Rattle.std.proofs.Common.{◌≡◌, ◌≢◌, ℕ, zero, suc, ◌+◌, ◌<◌, ◌≤◌, List, [], ◌∷◌, ◌++◌, Option, refl, sym, ap, ◌∙◌, subst, length, arith}
-use Rattle.std.specs.Prelude.{Result, Ok, Err}
+use Rattle.std.proofs.Common.{◌≡◌, ◌≢◌, ℕ, ◌+◌, ◌<◌, List, [], ◌∷◌, ◌++◌, Option, refl, ap, subst, length}
+use Rattle.std.specs.Prelude.{Ok, Err}
 use Rattle.std.proofs.lemmas.List.{length-append}
 use Rattle.umix_base.specs.declared.limits.Limits.{Limits}
 use Rattle.umix_base.specs.declared.source.Source as source
@@ -10,7 +10,6 @@ use Rattle.um_word.specs.State.{State}
 use Rattle.um_word.specs.Rule.{Identifiers}
 use Rattle.um_machine.specs.declared.stop.Stop.{Stop}
 use Rattle.um_machine.specs.declared.stop.Stop.TheVariants as stop
-use Rattle.um_machine.specs.MachineView.{MachineView}
 use Rattle.um_machine.specs.Outside.{MayHold}
 use Rattle.um_machine.specs.Runs.{Seen, GoesFromTo}
 use Rattle.um_machine.proofs.Joined.{joined, weakened}
@@ -88,9 +87,9 @@ one_obeyed before between now points new lines line input output same obeyed obe
     (λ s t. ObeyEnds line input output between.machine now.machine points new s t (Ok tt))
     (λ s t. Obeys before.machine.limits (lines ++ line ∷ []) (fresh s before.machine.identifiers) (session_of now.machine t new))
     (λ s u t x e.
-        subst (Obeys before.machine.limits (lines ++ line ∷ []) (fresh s before.machine.identifiers)) e.2
-        (obeys_more before.machine.limits line e.0 lines (fresh s before.machine.identifiers) (session_of between.machine u points) x
-        (subst (λ L. Answers L line (session_of between.machine u points) e.0) same e.1)))
+    subst (Obeys before.machine.limits (lines ++ line ∷ []) (fresh s before.machine.identifiers)) e.2
+    (obeys_more before.machine.limits line e.0 lines (fresh s before.machine.identifiers) (session_of between.machine u points) x
+    (subst (λ L. Answers L line (session_of between.machine u points) e.0) same e.1)))
     obeyed obey
 
 pub one_longer : (lines : List (List ℕ)) (line : List ℕ) (k : ℕ) → length lines ≡ k → length (lines ++ line ∷ []) ≡ k + 1

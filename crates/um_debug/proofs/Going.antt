@@ -1,6 +1,6 @@
 -- Cycles with points, and runs of the machine.
-use Rattle.std.proofs.Common.{◌≡◌, ◌≢◌, ℕ, zero, suc, ◌+◌, ◌<◌, ◌≤◌, Bool, true, false, Option, Some, None, refl, sym, ap, ◌∙◌, subst, arith}
-use Rattle.std.specs.Prelude.{if◌then◌else◌, Result, Ok, Err}
+use Rattle.std.proofs.Common.{◌≡◌, ◌≢◌, ℕ, zero, suc, ◌+◌, ◌≤◌, Bool, true, false, refl, sym, ap, ◌∙◌, subst, arith}
+use Rattle.std.specs.Prelude.{if◌then◌else◌, Result, Ok}
 use Rattle.umix_base.specs.declared.limits.Limits.{Limits}
 use Rattle.um_word.specs.State.{State}
 use Rattle.um_word.specs.Table as table
@@ -18,7 +18,7 @@ use Rattle.um_machine.proofs.Joined.{weakened}
 use Rattle.um_debug.specs.declared.course.Came.{Came}
 use Rattle.um_debug.specs.declared.course.Came.TheVariants as came
 use Rattle.um_debug.specs.declared.debugger.DebugEnd.{DebugEnd}
-use Rattle.um_debug.specs.Course.{Points, no_points, Going, Goes, Ends, after_cycle, one_more, goes_for, IsCutShort}
+use Rattle.um_debug.specs.Course.{no_points, Going, Goes, Ends, after_cycle, one_more, goes_for, IsCutShort}
 use Rattle.um_debug.specs.inner.Calls.{CameTo, Course, came_by}
 
 -- how a run goes, of which only the end is looked at

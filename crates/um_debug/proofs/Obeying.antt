@@ -1,5 +1,5 @@
 -- Lines that are answered.
-use Rattle.std.proofs.Common.{◌≡◌, ℕ, zero, ◌≤◌, List, [], ◌++◌, refl, sym, ap, ◌∙◌, subst, length, take, arith}
+use Rattle.std.proofs.Common.{◌≡◌, ℕ, ◌≤◌, List, ◌++◌, refl, sym, ap, ◌∙◌, subst, length, take, arith}
 use Rattle.std.specs.Prelude.{Result, Ok, Err, Option, Some, Vec, option_map}
 use Rattle.std.specs.declared.alloc.Global.{Global}
 use Rattle.std.proofs.lemmas.List.{append-nil}
@@ -16,7 +16,7 @@ use Rattle.um_debug.specs.Commands as commands
 use Rattle.um_debug.specs.Commands.{IsCommand}
 use Rattle.um_debug.specs.Course.{Points}
 use Rattle.um_debug.specs.Replies.{unknown_text}
-use Rattle.um_debug.specs.Session.{Session, Answer, Answers, known, unknown, answer, tells, sent, after}
+use Rattle.um_debug.specs.Session.{Session, Answer, Answers, known, unknown, answer, tells, sent}
 use Rattle.um_debug.specs.Debugging as debugging
 use Rattle.um_debug.specs.Debugging.{FailsAtReply, Fails}
 use Rattle.um_debug.specs.inner.Calls as calls
@@ -71,8 +71,8 @@ module _ (line : List ℕ) (input output : Type 0) (old new : MachineView) (befo
     e.0,
     e.1,
     ap (λ (x : Session). record x { state = record x.state { out = x.state.out ++ sent e.0.reply } }) e.2.session_is
-    ∙ ap (λ r. session_of new (record u { out = u.out ++ r }) now) (sym e.2.reply_is)
-    ∙ ap (λ v. session_of new v now) (sym behind),
+        ∙ ap (λ r. session_of new (record u { out = u.out ++ r }) now) (sym e.2.reply_is)
+        ∙ ap (λ v. session_of new v now) (sym behind),
   )
 
   -- of a reply the first k bytes went out

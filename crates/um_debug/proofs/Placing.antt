@@ -1,9 +1,8 @@
 -- Where a call leads a machine.
-use Rattle.std.proofs.Common.{◌≡◌, ℕ, List, ◌++◌, Option, Some, refl}
+use Rattle.std.proofs.Common.{◌≡◌, ℕ, List, ◌++◌, Option, refl}
 use Rattle.std.specs.Prelude.{option_map}
 use Rattle.um_word.specs.State.{State}
 use Rattle.um_machine.specs.MachineView.{MachineView, state_of}
-use Rattle.um_machine.specs.Outside.{MayHold}
 use Rattle.um_machine.specs.Runs.{Seen, Took, GoesFromTo}
 use Rattle.um_machine.proofs.Bytes.{held_more}
 

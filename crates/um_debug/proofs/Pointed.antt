@@ -1,25 +1,24 @@
 -- Cycles that look at points, one after another.
 use Rattle.std.proofs.Common.{◌≡◌, ◌≢◌, ℕ, zero, suc, ◌+◌, ◌-◌, ◌<◌, ◌≤◌, Bool, true, false, List, [], ◌∷◌, Option, Some, None, refl, sym, ap, ◌∙◌, subst, arith}
-use Rattle.std.specs.Prelude.{if◌then◌else◌, slice_get, Result, Ok, Err}
+use Rattle.std.specs.Prelude.{if◌then◌else◌, slice_get, Ok, Err}
 use Rattle.std.proofs.lemmas.Bool.{eqb-true}
 use Rattle.umix_base.specs.declared.limits.Limits.{Limits}
 use Rattle.um_word.specs.State.{Arrays, State}
 use Rattle.um_word.specs.Table as table
 use Rattle.um_word.specs.Table.{cycle, op_under}
-use Rattle.um_word.specs.Run.{Standing, Stands, Failed}
+use Rattle.um_word.specs.Run.{Standing, Stands}
 use Rattle.um_word.specs.Rule.{Identifiers, next_identifier, ruled}
 use Rattle.um_machine.specs.declared.stop.Stop.{Stop}
 use Rattle.um_machine.specs.declared.stop.Stop.TheVariants.{Halted, Budget, ReadFault, WriteFault, Memory}
-use Rattle.um_machine.specs.MachineView.{MachineView, state_of}
-use Rattle.um_machine.specs.Runs.{Seen, Took, GoesFromTo, EndsAs, EndsEarly, RunEnds, CycleEnds}
+use Rattle.um_machine.specs.MachineView.{MachineView}
+use Rattle.um_machine.specs.Runs.{Seen, GoesFromTo, EndsAs, EndsEarly, RunEnds, CycleEnds}
 use Rattle.um_machine.proofs.Joined.{joined, weakened}
 use Rattle.um_debug.specs.declared.command.WordPlace.{WordPlace}
 use Rattle.um_debug.specs.declared.course.Came.{Came}
 use Rattle.um_debug.specs.declared.course.Came.TheVariants as came
-use Rattle.um_debug.specs.declared.debugger.DebugEnd.{DebugEnd}
 use Rattle.um_debug.specs.Replies.{word_at}
 use Rattle.um_debug.specs.Course.{Points, Going, Goes, Ends, after_cycle, going_on, is_same_word, first_change, by_change, broke, seen_at, one_more, goes_for, IsCutShort}
-use Rattle.um_debug.specs.inner.Calls.{CameTo, Course, AreWords, came_by}
+use Rattle.um_debug.specs.inner.Calls.{Course, AreWords, came_by}
 use Rattle.um_debug.proofs.Placing.{IsAt, placed, no_call}
 use Rattle.um_debug.proofs.Going.{came_to, running_there, halted_there, failed_there}
 

@@ -1,7 +1,6 @@
-use Rattle.std.proofs.Common.{◌≡◌, ◌+◌, ◌<◌, ℕ, None, Some, refl, sym, ap, ◌∙◌, subst, arith}
+use Rattle.std.proofs.Common.{refl, sym, ap, ◌∙◌, subst, arith}
 use Rattle.std.specs.Prelude.{Err}
 use Rattle.um_machine.specs.Runs.{seen_by}
-use Rattle.umix_base.specs.Causes.{Rose}
 use Rattle.um_machine.proofs.Rests.{rose_later}
 use Rattle.um_debug.proofs.Pointed.{Went, none_went, all_went, went_more, came_seen, came_halted, came_failed, words_kept}
 use Rattle.um_debug.proofs.course.go.Goals as goal

@@ -1,4 +1,4 @@
-use Rattle.std.proofs.Common.{◌≡◌, ◌+◌, ◌≤◌, ◌<◌, ℕ}
+use Rattle.std.proofs.Common.{◌≡◌, ◌+◌, ◌≤◌, ◌<◌}
 use Rattle.std.specs.Prelude.{is_some}
 use Rattle.um_machine.specs.MachineView.{IsWhole}
 use Rattle.um_machine.specs.Runs.{seen_by}

@@ -1,10 +1,6 @@
-use Rattle.std.proofs.Common.{sym}
 use Rattle.std.specs.Prelude.{Ok}
 use Rattle.um_machine.specs.declared.stop.Stop.TheVariants.{Budget, Halted}
-use Rattle.um_machine.specs.Runs.{GoesFromTo}
 use Rattle.um_debug.specs.declared.course.Came.TheVariants as came
-use Rattle.um_debug.specs.Course.{no_points}
-use Rattle.um_debug.specs.inner.Calls.{Course}
 use Rattle.um_debug.proofs.Going.{as_course, budget_course, halt_course, other_course}
 use Rattle.um_debug.proofs.course.step.Goals as goal
 

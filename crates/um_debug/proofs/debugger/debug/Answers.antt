@@ -1,10 +1,10 @@
-use Rattle.std.proofs.Common.{◌≡◌, ◌+◌, ◌<◌, ℕ, List, [], ◌∷◌, ◌++◌, refl, sym, ap, ◌∙◌, subst, length, arith}
+use Rattle.std.proofs.Common.{◌<◌, [], ◌∷◌, ◌++◌, refl, sym, ◌∙◌, subst, arith}
 use Rattle.std.proofs.lemmas.Bool.Decides.{Decides-eqb, not_from_Decides}
 use Rattle.std.proofs.lemmas.Slice.Eq.{slice_eq-Decides}
 use Rattle.um_machine.proofs.Rests.{rose_later}
 use Rattle.um_machine.specs.Runs.{seen_by}
 use Rattle.um_debug.specs.inner.Calls.{InputRose, OutputRose}
-use Rattle.um_debug.proofs.Debugged.{Obeyed, none_passed, none_obeyed, one_passed, one_obeyed, one_longer, at_turns, at_no_line, at_unread, at_quit, at_failure}
+use Rattle.um_debug.proofs.Debugged.{none_passed, none_obeyed, one_passed, one_obeyed, one_longer, at_turns, at_no_line, at_unread, at_quit, at_failure}
 use Rattle.um_debug.proofs.debugger.debug.Goals as goal
 
 pub loop-init : goal.loop-init
@@ -59,10 +59,10 @@ loop-preserved g c =
         l.0 ++ c.in-Ok-Some.line ∷ [],
         one_longer l.0 c.in-Ok-Some.line c.loop.counter l.1,
         one_passed _ (g.I.Source.rest c.loop.commands) _ l.0 c.in-Ok-Some.line l.2 took
-        (λ same. not_from_Decides _ (slice_eq-Decides Decides-eqb _ _ _ c.eq.ensures) c.if-eq.false
-        (c.bytes.ensures ∙ same ∙ sym c.as_slice.ensures)),
+            (λ same. not_from_Decides _ (slice_eq-Decides Decides-eqb _ _ _ c.eq.ensures) c.if-eq.false
+            (c.bytes.ensures ∙ same ∙ sym c.as_slice.ensures)),
         one_obeyed _ _ _ c.loop.points c.obey.new.points l.0 c.in-Ok-Some.line (InputRose g.J.Source c.loop.input c.obey.new.input)
-        (OutputRose g.O.Sink c.loop.out c.obey.new.out) c.loop.invariant.limits l.3 (rw c.bytes-in-loop.ensures at c.in_default.ensures.ends),
+            (OutputRose g.O.Sink c.loop.out c.obey.new.out) c.loop.invariant.limits l.3 (rw c.bytes-in-loop.ensures at c.in_default.ensures.ends),
       );
       limits = c.obey.ensures.limits ∙ c.loop.invariant.limits;
       commands = c.next_line.ensures.tells ∙ c.loop.invariant.commands;

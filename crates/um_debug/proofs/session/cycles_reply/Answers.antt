@@ -1,7 +1,7 @@
 use Rattle.std.proofs.Common.{◌∙◌, sym}
 use Rattle.std.proofs.lemmas.Result.{err_from_is_err_and}
 use Rattle.um_debug.specs.inner.Calls.{InputRose, OutputRose}
-use Rattle.um_debug.proofs.Answering.{call_refused, call_refused_memory, call_told, call_untold, call_cut}
+use Rattle.um_debug.proofs.Answering.{call_refused_memory, call_told, call_untold, call_cut}
 use Rattle.um_debug.proofs.session.cycles_reply.Goals as goal
 
 pub returns-in_err-unknown_reply-clause-ends : goal.returns-in_err-unknown_reply-clause-ends

@@ -1,8 +1,8 @@
-use Rattle.std.proofs.Common.{◌≡◌, ◌++◌, codes, decimal, refl, sym, ap}
+use Rattle.std.proofs.Common.{◌++◌, codes, decimal, refl, sym}
 use Rattle.std.specs.Prelude.{◌==◌}
 use Rattle.std.proofs.lemmas.Result.{err_from_is_err_and}
 use Rattle.um_debug.specs.declared.command.Command.TheVariants.{Registers, Words, Finger, Breakpoint, Watch}
-use Rattle.um_debug.specs.Session.{Session, toggled, is_place, most_breakpoints, most_watches}
+use Rattle.um_debug.specs.Session.{toggled, is_place, most_breakpoints, most_watches}
 use Rattle.um_debug.specs.inner.Calls.{InputRose, OutputRose}
 use Rattle.um_debug.proofs.Answering.{call_stepped, call_gone, call_unsaid, toggle_keeps}
 use Rattle.um_debug.proofs.session.follow.Goals as goal
