@@ -111,7 +111,11 @@ pub(crate) fn push_finger(reply: &mut Vec<u8>, machine: &Machine) -> Result<(), 
 }
 
 /// Adds a breakpoint, and what became of it.
-pub(crate) fn push_breakpoint(reply: &mut Vec<u8>, offset: u32, toggle: Toggle) -> Result<(), Memory>
+pub(crate) fn push_breakpoint(
+    reply: &mut Vec<u8>,
+    offset: u32,
+    toggle: Toggle,
+) -> Result<(), Memory>
     ensures { OnOk result (reply.new.items ≡ reply.old.items ++ toggle_text (codes "b " ++ decimal offset) toggle) }
 {
     if toggle == Toggle::Full {
@@ -124,7 +128,11 @@ pub(crate) fn push_breakpoint(reply: &mut Vec<u8>, offset: u32, toggle: Toggle) 
 }
 
 /// Adds a watch, and what became of it.
-pub(crate) fn push_watch(reply: &mut Vec<u8>, place: WordPlace, toggle: Toggle) -> Result<(), Memory>
+pub(crate) fn push_watch(
+    reply: &mut Vec<u8>,
+    place: WordPlace,
+    toggle: Toggle,
+) -> Result<(), Memory>
     ensures { OnOk result (reply.new.items ≡ reply.old.items ++ toggle_text (codes "w " ++ decimal place.id ++ codes " " ++ decimal place.offset) toggle) }
 {
     if toggle == Toggle::Full {
