@@ -17,7 +17,7 @@ decimal_no_space n lt =
     decimal_by_steps (λ _ digits. HasNoSpace digits)
     (λ d small. is_no_space (48 + d) (λ e. absurd (omega (arith, e))))
     (λ m digits ten none. All-append (λ byte. byte ≢ 32) digits ((48 + m % 10) ∷ []) none
-        (is_no_space (48 + m % 10) (λ e. absurd (omega (arith, e))))) n lt
+    (is_no_space (48 + m % 10) (λ e. absurd (omega (arith, e))))) n lt
 
 head_no_space : (byte : ℕ) (bytes : List ℕ) → HasNoSpace (byte ∷ bytes) → byte ≢ 32
 head_no_space byte bytes none = All-get_or (λ byte. byte ≢ 32) (byte ∷ bytes) 0 0 (omega arith) none

@@ -87,7 +87,7 @@ module _ (before after : Arrays) (places : List WordPlace) (words : List (Option
       ap (λ (old : Option ℕ). Some (came.Watched place old word)) word_was
       ∙ ap (λ (new : Option ℕ). Some (came.Watched place (word_at before place) new)) reads
       ∙ sym (ap (λ (found : Option WordPlace). by_change before after found broken)
-          (here_is ∙ ap (λ (b : Bool). cond (not b) (first_change before after (drop (k + 1) places)) (Some place)) other))
+      (here_is ∙ ap (λ (b : Bool). cond (not b) (first_change before after (drop (k + 1) places)) (Some place)) other))
 
 -- where no word changed, the breakpoints are looked at
 pub none_changed : (points : Points) (before after : Arrays) (finger k at : ℕ) (seen : List ℕ) (found : Bool) → length points.watches ≤ k →

@@ -74,8 +74,8 @@ impl Points {
     /// Sets or removes the breakpoint at an offset.
     pub(crate) fn toggle_breakpoint(&mut self, offset: u32) -> Result<Toggle, Memory>
         ensures ok { IfOk result (Changes
-            (toggled (λ other. other == offset) most_breakpoints offset self.old.breakpoints) self.old
-            (λ xs. record self.old { breakpoints = xs }) self.new) }
+            (toggled (λ other. other == offset) most_breakpoints offset self.old.breakpoints)
+            self.old (λ xs. record self.old { breakpoints = xs }) self.new) }
         ensures err { OnErr result (self.new ≡ self.old) }
     {
         change(&mut self.breakpoints, offset, MOST_BREAKPOINTS)

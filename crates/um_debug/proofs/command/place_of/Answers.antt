@@ -13,11 +13,11 @@ returns-in_err-word_of c =
     let cut = cut_word c.args.numbers.now c.split_once.result c.in_ok-id.id c.in_ok-id.offset c.in_ok-id.was c.split_once.ensures.cases in
     rw c.from_residual-in_err-word_of.ensures
     (λ place is. c.in_err-word_of.ensures place.id
-        (record { writes = (place_cut c.args.numbers.now c.in_ok-id.id.now c.in_ok-id.offset.now place cut is).first; small = omega (arith, is.id) }))
+    (record { writes = (place_cut c.args.numbers.now c.in_ok-id.id.now c.in_ok-id.offset.now place cut is).first; small = omega (arith, is.id) }))
 
 pub returns-in_err-word_of-2 : goal.returns-in_err-word_of-2
 returns-in_err-word_of-2 c =
     let cut = cut_word c.args.numbers.now c.split_once.result c.in_ok-id.id c.in_ok-id.offset c.in_ok-id.was c.split_once.ensures.cases in
     rw c.from_residual-in_err-word_of-2.ensures
     (λ place is. c.in_err-word_of-2.ensures place.offset
-        (record { writes = (place_cut c.args.numbers.now c.in_ok-id.id.now c.in_ok-id.offset.now place cut is).others; small = omega (arith, is.offset) }))
+    (record { writes = (place_cut c.args.numbers.now c.in_ok-id.id.now c.in_ok-id.offset.now place cut is).others; small = omega (arith, is.offset) }))

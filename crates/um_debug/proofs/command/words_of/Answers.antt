@@ -20,7 +20,7 @@ returns-in_err-word_of c =
     let cut = cut_word c.args.numbers.now c.split_once.result c.in_ok-id.id c.in_ok-id.others c.in_ok-id.was c.split_once.ensures.cases in
     rw c.from_residual-in_err-word_of.ensures
     (λ command is. let s = shows c.args.numbers.now command is in
-        c.in_err-word_of.ensures s.id (record { writes = (first_part c.args.numbers.now c.in_ok-id.id.now c.in_ok-id.others.now cut s).first; small = omega (arith, s.small_id) }))
+    c.in_err-word_of.ensures s.id (record { writes = (first_part c.args.numbers.now c.in_ok-id.id.now c.in_ok-id.others.now cut s).first; small = omega (arith, s.small_id) }))
 
 pub returns-in_err-word_of-2 : goal.returns-in_err-word_of-2
 returns-in_err-word_of-2 c =
@@ -28,8 +28,8 @@ returns-in_err-word_of-2 c =
     let other = cut_word c.in_ok-id.others.now c.split_once-2.result c.in_ok-offset.offset c.in_ok-offset.count c.in_ok-offset.was c.split_once-2.ensures.cases in
     rw c.from_residual-in_err-word_of-2.ensures
     (λ command is. let s = shows c.args.numbers.now command is in
-        c.in_err-word_of-2.ensures s.offset
-        (record { writes = (second_part c.args.numbers.now c.in_ok-id.id.now c.in_ok-id.others.now cut s c.in_ok-offset.offset.now c.in_ok-offset.count.now other).first; small = omega (arith, s.small_offset) }))
+    c.in_err-word_of-2.ensures s.offset
+    (record { writes = (second_part c.args.numbers.now c.in_ok-id.id.now c.in_ok-id.others.now cut s c.in_ok-offset.offset.now c.in_ok-offset.count.now other).first; small = omega (arith, s.small_offset) }))
 
 pub returns-in_err-count : goal.returns-in_err-count
 returns-in_err-count c =
@@ -37,8 +37,8 @@ returns-in_err-count c =
     let other = cut_word c.in_ok-id.others.now c.split_once-2.result c.in_ok-offset.offset c.in_ok-offset.count c.in_ok-offset.was c.split_once-2.ensures.cases in
     rw c.from_residual-in_err-count.ensures
     (λ command is. let s = shows c.args.numbers.now command is in
-        c.in_err-count.ensures s.count
-        (record { writes = (second_part c.args.numbers.now c.in_ok-id.id.now c.in_ok-id.others.now cut s c.in_ok-offset.offset.now c.in_ok-offset.count.now other).others; small = s.most }))
+    c.in_err-count.ensures s.count
+    (record { writes = (second_part c.args.numbers.now c.in_ok-id.id.now c.in_ok-id.others.now cut s c.in_ok-offset.offset.now c.in_ok-offset.count.now other).others; small = s.most }))
 
 pub returns-then-count-eq0 : goal.returns-then-count-eq0
 returns-then-count-eq0 c command is =
@@ -60,4 +60,4 @@ returns c =
     (omega (arith, c.in_ok-word_of.ensures.small)) (omega (arith, c.in_ok-word_of-2.ensures.small))
     (omega (arith, c.if-count-eq0.false)) c.in_ok-count.ensures.small (omega (arith, c.if-place-count.false))
     (shows_parts c.args.numbers.now c.in_ok-id.id.now c.in_ok-id.others.now c.in_ok-offset.offset.now c.in_ok-offset.count.now c.in_ok-word_of.field-0 c.in_ok-word_of-2.field-0 c.in_ok-count.count cut other
-        c.in_ok-word_of.ensures.writes c.in_ok-word_of-2.ensures.writes c.in_ok-count.ensures.writes)
+    c.in_ok-word_of.ensures.writes c.in_ok-word_of-2.ensures.writes c.in_ok-count.ensures.writes)

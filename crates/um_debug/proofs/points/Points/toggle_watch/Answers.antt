@@ -15,12 +15,12 @@ invariant_of-self c =
 pub returns-clause-ok : goal.returns-clause-ok
 returns-clause-ok c =
     subst (λ (p : Points). IfOk c.change.result (Changes (toggled (is_place c.args.place) most_watches c.args.place p.watches) p
-        (λ xs. record p { watches = xs }) (record { breakpoints = c.self.inside.breakpoints.items; watches = c.change.new.list.items })))
+    (λ xs. record p { watches = xs }) (record { breakpoints = c.self.inside.breakpoints.items; watches = c.change.new.list.items })))
     c.self.view_is
     (changes (toggled (is_place c.args.place) most_watches c.args.place c.self.inside.watches.items)
-        (record { breakpoints = c.self.inside.breakpoints.items; watches = c.self.inside.watches.items })
-        (λ (xs : List WordPlace). record { breakpoints = c.self.inside.breakpoints.items; watches = xs })
-        c.self.inside.watches.items c.change.new.list.items c.change.result refl c.change.ensures.ok)
+    (record { breakpoints = c.self.inside.breakpoints.items; watches = c.self.inside.watches.items })
+    (λ (xs : List WordPlace). record { breakpoints = c.self.inside.breakpoints.items; watches = xs })
+    c.self.inside.watches.items c.change.new.list.items c.change.result refl c.change.ensures.ok)
 
 pub returns-clause-err : goal.returns-clause-err
 returns-clause-err c =
