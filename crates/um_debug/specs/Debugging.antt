@@ -1,5 +1,5 @@
 -- What `debug` comes to: how a session ends, and where it is cut short.
-use Rattle.std.specs.Prelude.{◌≡◌, ℕ, ◌+◌, ◌<◌, ◌≤◌, List, [], ◌∷◌, ◌++◌, length, take}
+use Rattle.std.specs.Prelude.{◌≡◌, ℕ, ◌+◌, ◌<◌, ◌≤◌, List, [], ◌++◌, length, take}
 use Rattle.umix_base.specs.declared.limits.Limits.{Limits}
 use Rattle.umix_base.specs.declared.source.Source as source
 use Rattle.umix_base.specs.declared.sink.Sink as sink

@@ -149,9 +149,11 @@ fn words_of(numbers: &str) -> Option<Command>
     Some(Command::Words(place, count as u32))
 }
 
-// the number that a word writes in decimal, if it is at most this, or `None` exactly where it writes none
+// the number that a word writes in decimal, if it is at most this, or `None` exactly where it
+// writes none
 fn number_of(word: &str, most: u64) -> Option<u64>
-    ensures { MatchOption result ((n : ℕ) → IsDecimal most word.now n → ⊥) (IsDecimal most word.now) }
+    ensures { MatchOption result ((n : ℕ) → IsDecimal most word.now n → ⊥)
+        (IsDecimal most word.now) }
 {
     let Ok(number) = word.parse::<u64>() else {
         return None;

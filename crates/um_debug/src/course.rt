@@ -5,9 +5,7 @@ ghost use Rattle.um_machine.specs.Outside.{IsAsked, IsFed};
 ghost use Rattle.um_machine.specs.MachineView.{IsWhole};
 ghost use Rattle.um_machine.specs.Runs.{seen_by, GoesFromTo};
 ghost use Rattle.um_debug.specs.Course.{no_points};
-ghost use Rattle.um_machine.specs.declared.stop.Stop.TheVariants as stop;
-ghost use Rattle.um_machine.specs.Stops.{stop_of};
-ghost use Rattle.um_debug.specs.inner.Calls.{Course, InputRose, OutputRose};
+ghost use Rattle.um_debug.specs.inner.Calls.{Course, came_by, InputRose, OutputRose};
 
 use crate::command::WordPlace;
 use crate::debugger::DebugEnd;
@@ -37,11 +35,13 @@ pub(crate) fn step<I: Source, O: Sink>(
     input: &mut I,
     out: &mut O,
 ) -> Result<Came, DebugEnd>
-    requires { machine.old.cycles + cycles < 2 ^ 64 }
+    requires some { 1 ≤ cycles }
+    requires fit { machine.old.cycles + cycles < 2 ^ 64 }
     ensures course { let seen = seen_by I.Source O.Sink in
         GoesFromTo (seen machine.old input.old out.old) (seen machine.new input.new out.new)
         (λ s t. Course no_points cycles (InputRose I.Source input.old input.new)
         (OutputRose O.Sink out.old out.new) machine.old machine.new s t result) }
+    ensures counted { machine.new.cycles ≤ machine.old.cycles + cycles }
     ensures limits { machine.new.limits ≡ machine.old.limits }
     ensures whole { IsWhole machine.new }
     ensures input { IsAsked I.Source input.old input.new (result ≡ Err DebugEnd.ReadFault) }
@@ -62,11 +62,13 @@ pub(crate) fn go<I: Source, O: Sink>(
     input: &mut I,
     out: &mut O,
 ) -> Result<Came, DebugEnd>
-    requires { machine.old.cycles + cycles < 2 ^ 64 }
+    requires some { 1 ≤ cycles }
+    requires fit { machine.old.cycles + cycles < 2 ^ 64 }
     ensures course { let seen = seen_by I.Source O.Sink in
         GoesFromTo (seen machine.old input.old out.old) (seen machine.new input.new out.new)
         (λ s t. Course points.now cycles (InputRose I.Source input.old input.new)
         (OutputRose O.Sink out.old out.new) machine.old machine.new s t result) }
+    ensures counted { machine.new.cycles ≤ machine.old.cycles + cycles }
     ensures limits { machine.new.limits ≡ machine.old.limits }
     ensures whole { IsWhole machine.new }
     ensures input { IsAsked I.Source input.old input.new (result ≡ Err DebugEnd.ReadFault) }
@@ -91,6 +93,7 @@ pub(crate) fn go<I: Source, O: Sink>(
 
 // what a stop comes to that is neither of a budget nor of a halt
 fn came_of(stop: Stop) -> Result<Came, DebugEnd>
+    ensures { result ≡ came_by stop }
 {
     match stop {
         Stop::ReadFault => Err(DebugEnd::ReadFault),

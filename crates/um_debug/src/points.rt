@@ -5,6 +5,7 @@ ghost use Rattle.um_word.specs.State.{Arrays};
 ghost use Rattle.um_debug.specs.Course.{no_points, seen_at};
 ghost use Rattle.um_debug.specs.Session.{toggled, is_place, most_breakpoints, most_watches};
 ghost use Rattle.um_debug.specs.inner.Calls.{AreWords, Changes};
+ghost use Rattle.um_debug.specs.inner.Toggling.{Became};
 
 use crate::command::WordPlace;
 use crate::course::Came;
@@ -73,8 +74,8 @@ impl Points {
     /// Sets or removes the breakpoint at an offset.
     pub(crate) fn toggle_breakpoint(&mut self, offset: u32) -> Result<Toggle, Memory>
         ensures ok { IfOk result (Changes
-            (toggled (λ other. other == offset) most_breakpoints offset self.old.breakpoints) self.old
-            (λ xs. record self.old { breakpoints = xs }) self.new) }
+            (toggled (λ other. other == offset) most_breakpoints offset self.old.breakpoints)
+            self.old (λ xs. record self.old { breakpoints = xs }) self.new) }
         ensures err { OnErr result (self.new ≡ self.old) }
     {
         change(&mut self.breakpoints, offset, MOST_BREAKPOINTS)
@@ -127,7 +128,11 @@ fn change<T: Copy + PartialEq + Drop>(
     list: &mut Vec<T>,
     thing: T,
     most: usize,
-) -> Result<Toggle, Memory> {
+) -> Result<Toggle, Memory>
+    ensures ok { IfOk result (Became (toggled (λ other. T.eq other thing) most thing list.old.items)
+        list.old.items list.new.items) }
+    ensures err { OnErr result (list.new.items ≡ list.old.items) }
+{
     if list.contains(&thing) {
         list.retain(|other| *other != thing);
         return Ok(Toggle::Off);

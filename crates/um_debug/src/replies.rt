@@ -1,8 +1,10 @@
 //! The replies of a session.
 
-ghost use Rattle.std.specs.Prelude.{◌≡◌, ◌++◌, ◌<◌, ◌≤◌, ◌^◌, ◌+◌, OnOk, if◌then◌else◌, decimal, codes, length};
-ghost use Rattle.um_debug.specs.Replies.{came_text, fault_text, registers_text, words_text, finger_text};
-ghost use Rattle.um_debug.specs.Replies.{unknown_text, next_text, cycles_text, shown_word, hex_digits};
+ghost use Rattle.std.specs.Prelude.{◌≡◌, ◌++◌, ◌<◌, ◌≤◌, ◌^◌, ◌+◌, OnOk, if◌then◌else◌};
+ghost use Rattle.std.specs.Prelude.{decimal, codes, length};
+ghost use Rattle.um_debug.specs.Replies.{came_text, fault_text, registers_text, words_text};
+ghost use Rattle.um_debug.specs.Replies.{finger_text, unknown_text, next_text, cycles_text};
+ghost use Rattle.um_debug.specs.Replies.{shown_word, hex_digits};
 ghost use Rattle.um_debug.specs.inner.Calls.{toggle_text};
 
 use crate::command::WordPlace;
@@ -16,7 +18,8 @@ use umix_base::Memory;
 /// Adds what cycles came to.
 pub(crate) fn push_came(reply: &mut Vec<u8>, came: &Came, machine: &Machine) -> Result<(), Memory>
     requires { machine.now.cycles + 1 < 2 ^ 64 }
-    ensures { OnOk result (reply.new.items ≡ reply.old.items ++ came_text came.now machine.now.cycles machine.now.finger) }
+    ensures { OnOk result (reply.new.items
+        ≡ reply.old.items ++ came_text came.now machine.now.cycles machine.now.finger) }
 {
     match *came {
         Came::Stopped => {
@@ -49,7 +52,7 @@ pub(crate) fn push_came(reply: &mut Vec<u8>, came: &Came, machine: &Machine) -> 
     }
 }
 
-/// Adds a fault that came as the cycle of this number was tried.
+// adds a fault that came as the cycle of this number was tried
 fn push_fault(reply: &mut Vec<u8>, stop: &Stop, cycle: u64) -> Result<(), Memory>
     ensures { OnOk result (reply.new.items ≡ reply.old.items ++ fault_text stop.now cycle) }
 {
@@ -65,7 +68,8 @@ fn push_fault(reply: &mut Vec<u8>, stop: &Stop, cycle: u64) -> Result<(), Memory
 /// Adds the eight registers.
 pub(crate) fn push_registers(reply: &mut Vec<u8>, machine: &Machine) -> Result<(), Memory>
     requires { length machine.now.registers ≡ 8 }
-    ensures { OnOk result (reply.new.items ≡ reply.old.items ++ registers_text machine.now.registers) }
+    ensures { OnOk result (reply.new.items
+        ≡ reply.old.items ++ registers_text machine.now.registers) }
 {
     push_hex(reply, machine.register(0))?;
     for k in 1..8 {
@@ -83,7 +87,8 @@ pub(crate) fn push_words(
     count: u32,
 ) -> Result<(), Memory>
     requires { (1 ≤ count) × (place.offset + count ≤ 2 ^ 32) }
-    ensures { OnOk result (reply.new.items ≡ reply.old.items ++ words_text machine.now.arrays place count) }
+    ensures { OnOk result (reply.new.items
+        ≡ reply.old.items ++ words_text machine.now.arrays place count) }
 {
     push_word(reply, machine.word(place.id, place.offset))?;
     for k in 1..count {
@@ -95,7 +100,8 @@ pub(crate) fn push_words(
 
 /// Adds where the machine stands.
 pub(crate) fn push_finger(reply: &mut Vec<u8>, machine: &Machine) -> Result<(), Memory>
-    ensures { OnOk result (reply.new.items ≡ reply.old.items ++ finger_text machine.now.arrays machine.now.cycles machine.now.finger) }
+    ensures { OnOk result (reply.new.items ≡ reply.old.items
+        ++ finger_text machine.now.arrays machine.now.cycles machine.now.finger) }
 {
     let (arrays, words) = machine.live();
     reply.extend_from_slice(b"finger ")?;
@@ -111,8 +117,13 @@ pub(crate) fn push_finger(reply: &mut Vec<u8>, machine: &Machine) -> Result<(), 
 }
 
 /// Adds a breakpoint, and what became of it.
-pub(crate) fn push_breakpoint(reply: &mut Vec<u8>, offset: u32, toggle: Toggle) -> Result<(), Memory>
-    ensures { OnOk result (reply.new.items ≡ reply.old.items ++ toggle_text (codes "b " ++ decimal offset) toggle) }
+pub(crate) fn push_breakpoint(
+    reply: &mut Vec<u8>,
+    offset: u32,
+    toggle: Toggle,
+) -> Result<(), Memory>
+    ensures { OnOk result (reply.new.items
+        ≡ reply.old.items ++ toggle_text (codes "b " ++ decimal offset) toggle) }
 {
     if toggle == Toggle::Full {
         reply.extend_from_slice(b"full")?;
@@ -124,8 +135,13 @@ pub(crate) fn push_breakpoint(reply: &mut Vec<u8>, offset: u32, toggle: Toggle) 
 }
 
 /// Adds a watch, and what became of it.
-pub(crate) fn push_watch(reply: &mut Vec<u8>, place: WordPlace, toggle: Toggle) -> Result<(), Memory>
-    ensures { OnOk result (reply.new.items ≡ reply.old.items ++ toggle_text (codes "w " ++ decimal place.id ++ codes " " ++ decimal place.offset) toggle) }
+pub(crate) fn push_watch(
+    reply: &mut Vec<u8>,
+    place: WordPlace,
+    toggle: Toggle,
+) -> Result<(), Memory>
+    ensures { OnOk result (reply.new.items ≡ reply.old.items ++ toggle_text
+        (codes "w " ++ decimal place.id ++ codes " " ++ decimal place.offset) toggle) }
 {
     if toggle == Toggle::Full {
         reply.extend_from_slice(b"full")?;
@@ -153,7 +169,8 @@ pub(crate) fn end_line(reply: &mut Vec<u8>) -> Result<(), Memory>
 }
 
 fn push_toggle(reply: &mut Vec<u8>, on: bool) -> Result<(), Memory>
-    ensures { OnOk result (reply.new.items ≡ reply.old.items ++ (if on then codes " on" else codes " off")) }
+    ensures { OnOk result (reply.new.items
+        ≡ reply.old.items ++ (if on then codes " on" else codes " off")) }
 {
     if on {
         reply.extend_from_slice(b" on")?;
@@ -178,7 +195,8 @@ fn push_next(reply: &mut Vec<u8>, platter: Option<u32>) -> Result<(), Memory>
 }
 
 fn push_place(reply: &mut Vec<u8>, place: WordPlace) -> Result<(), Memory>
-    ensures { OnOk result (reply.new.items ≡ reply.old.items ++ (decimal place.id ++ codes " " ++ decimal place.offset)) }
+    ensures { OnOk result (reply.new.items
+        ≡ reply.old.items ++ (decimal place.id ++ codes " " ++ decimal place.offset)) }
 {
     push_number(reply, place.id as u64)?;
     reply.push(b' ')?;
