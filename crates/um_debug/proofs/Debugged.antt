@@ -20,14 +20,14 @@ use Rattle.um_debug.specs.CommandLines as passes
 use Rattle.um_debug.specs.CommandLines.{IsLine, Passes, quit_line}
 use Rattle.um_debug.specs.Course.{Points, no_points}
 use Rattle.um_debug.specs.Session as obeys
-use Rattle.um_debug.specs.Session.{Session, Answer, Answers, Obeys, fresh, after}
+use Rattle.um_debug.specs.Session.{Session, Answer, AnswersLine, Obeys, fresh, after}
 use Rattle.um_debug.specs.Debugging as debugs
 use Rattle.um_debug.specs.Debugging.{EndsBy, Fails, Debugs, Debugged}
 use Rattle.um_debug.specs.inner.Calls.{TookLine, TookPart, session_of, ObeyEnds}
 use Rattle.um_debug.proofs.Placing.{no_call}
 
 -- one line more
-obeys_more : (L : Limits) (line : List ℕ) (a : Answer) (lines : List (List ℕ)) (s t : Session) → Obeys L lines s t → Answers L line t a →
+obeys_more : (L : Limits) (line : List ℕ) (a : Answer) (lines : List (List ℕ)) (s t : Session) → Obeys L lines s t → AnswersLine L line t a →
     Obeys L (lines ++ line ∷ []) s (after a)
 obeys_more L line a _ _ _ (obeys.none s) answers = obeys.more line [] s a (after a) answers (obeys.none (after a))
 obeys_more L line a _ _ _ (obeys.more first lines s b t x y) answers =
@@ -89,7 +89,7 @@ one_obeyed before between now points new lines line input output same obeyed obe
     (λ s u t x e.
     subst (Obeys before.machine.limits (lines ++ line ∷ []) (fresh s before.machine.identifiers)) e.2
     (obeys_more before.machine.limits line e.0 lines (fresh s before.machine.identifiers) (session_of between.machine u points) x
-    (subst (λ L. Answers L line (session_of between.machine u points) e.0) same e.1)))
+    (subst (λ L. AnswersLine L line (session_of between.machine u points) e.0) same e.1)))
     obeyed obey
 
 pub one_longer : (lines : List (List ℕ)) (line : List ℕ) (k : ℕ) → length lines ≡ k → length (lines ++ line ∷ []) ≡ k + 1
@@ -160,12 +160,12 @@ module _ {C I O : Type 0} (commands : source.Ghosts C) (inputs : source.Ghosts I
                 (subst (λ l. IsLine y.bytes l rest.0) quit y.is_line) e) obeyed;
           }
 
-      pub at_failure : (now : Seen) (new : Points) (input output : Type 0) (end : DebugEnd) →
+      pub at_failure : line ≢ quit_line → (now : Seen) (new : Points) (input output : Type 0) (end : DebugEnd) →
           between.machine.limits ≡ before.machine.limits →
           (input → Rose (inputs.faults i0) (inputs.faults i1)) → (output → Rose (sinks.faults o0) (sinks.faults o1)) →
           GoesFromTo between now (λ s t. ObeyEnds line input output between.machine now.machine points new s t (Err end)) →
           Debugged commands inputs sinks turns before now c0 c2 i0 i1 o0 o1 end
-      at_failure now new input output end same i o obey =
+      at_failure other now new input output end same i o obey =
           let rest = some_held (commands.rest c2) in
           let y = took rest.0 rest.1 in
           let x = passed y.bytes y.had in
@@ -177,7 +177,7 @@ module _ {C I O : Type 0} (commands : source.Ghosts C) (inputs : source.Ghosts I
             session = joined before between now
                 (λ s t. Obeys before.machine.limits lines (fresh s before.machine.identifiers) (session_of between.machine t points))
                 (λ s t. ObeyEnds line input output between.machine now.machine points new s t (Err end)) _
-                (λ s u t z e. debugs.fails lines line y.bytes (session_of between.machine u points) now.machine.identifiers t end x.2 fewer y.is_line z
+                (λ s u t z e. debugs.fails lines line y.bytes (session_of between.machine u points) now.machine.identifiers t end x.2 fewer y.is_line other z
                 (also_fails before.machine.limits line (session_of between.machine u points) input output _ _ i o now.machine.identifiers t end
                 (subst (λ L. Fails L line (session_of between.machine u points) input output now.machine.identifiers t end) same e)))
                 obeyed obey;

@@ -18,7 +18,7 @@ use Rattle.um_machine.proofs.Joined.{weakened}
 use Rattle.um_debug.specs.declared.course.Came.{Came}
 use Rattle.um_debug.specs.declared.course.Came.TheVariants as came
 use Rattle.um_debug.specs.declared.debugger.DebugEnd.{DebugEnd}
-use Rattle.um_debug.specs.Course.{no_points, Going, Goes, Ends, after_cycle, one_more, goes_for, IsCutShort}
+use Rattle.um_debug.specs.Course.{no_points, Going, Goes, Ends, after_cycle, one_more, goes_for, IsCutOff}
 use Rattle.um_debug.specs.inner.Calls.{CameTo, Course, came_by}
 
 -- how a run goes, of which only the end is looked at
@@ -145,7 +145,7 @@ module _ (n : ℕ) (input output : Type 0) (old new : MachineView) (s t : State)
   made_goes (suc m) at e h =
       unpointed old.limits m old.identifiers s ∙ ap going_of e ∙ goes_running at new.identifiers h
 
-  early : (stop : Stop) → EndsEarly (suc n) old new s t stop → IsCutShort old.limits no_points (suc n) old.identifiers s stop new.identifiers t
+  early : (stop : Stop) → EndsEarly (suc n) old new s t stop → IsCutOff old.limits no_points (suc n) old.identifiers s stop new.identifiers t
   early stop e = record {
     made = e.made;
     fewer = e.fewer;

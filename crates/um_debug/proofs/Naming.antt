@@ -9,7 +9,7 @@ use Rattle.std.proofs.lemmas.Str.Ascii.{IsAscii-nil, IsAscii-cons}
 use Rattle.um_debug.specs.declared.command.Command.{Command}
 use Rattle.um_debug.specs.declared.command.Command.TheVariants.{Step, Go, Breakpoint, Watch, Registers, Words, Finger, Quit}
 use Rattle.um_debug.specs.declared.command.WordPlace.{WordPlace}
-use Rattle.um_debug.specs.Commands.{IsCommand, IsCycles, most_cycles, most_words}
+use Rattle.um_debug.specs.Commands.{IsCommandLine, IsCycles, most_cycles, most_words}
 use Rattle.um_debug.specs.Commands as plain
 use Rattle.um_debug.specs.inner.Numbers.{HasNoSpace, IsDecimal, IsPlace}
 use Rattle.um_debug.proofs.Spaces.{decimal_no_space, no_cut, one_cut, AreCut, IsCut}
@@ -51,7 +51,7 @@ cut_name letter others name numbers other none is =
     one_cut name numbers (letter ∷ []) others none (one_letter letter other) (sym is)
 
 named_at : (line name numbers : List ℕ) (command : Command) → HasNoSpace name → line ≡ name ++ 32 ∷ numbers →
-    IsCommand line command → Named name numbers command
+    IsCommandLine line command → Named name numbers command
 named_at _ name numbers _ none is (plain.step n cycles) =
     let cut = cut_name 115 (decimal n) name numbers (omega arith) none is in step n cycles cut.first cut.others
 named_at _ name numbers _ none is (plain.go n cycles) =
@@ -70,13 +70,13 @@ named_at _ name numbers _ none is plain.finger = absurd (no_cut (codes "f") name
 named_at _ name numbers _ none is plain.quit = absurd (no_cut (codes "q") name numbers (one_letter 113 (omega arith)) is)
 
 -- a command that is cut at its first space has its name before it
-pub named : (name numbers : List ℕ) (command : Command) → HasNoSpace name → IsCommand (name ++ 32 ∷ numbers) command →
+pub named : (name numbers : List ℕ) (command : Command) → HasNoSpace name → IsCommandLine (name ++ 32 ∷ numbers) command →
     Named name numbers command
 named name numbers command none is = named_at (name ++ 32 ∷ numbers) name numbers command none refl is
 
 -- a line without a space is no command but these
 pub no_word : (line : List ℕ) (command : Command) → HasNoSpace line → line ≢ codes "r" → line ≢ codes "f" → line ≢ codes "q" →
-    IsCommand line command → ⊥
+    IsCommandLine line command → ⊥
 no_word _ _ none r f q (plain.step n cycles) = no_cut _ (codes "s") (decimal n) none refl
 no_word _ _ none r f q (plain.go n cycles) = no_cut _ (codes "c") (decimal n) none refl
 no_word _ _ none r f q (plain.breakpoint offset lt) = no_cut _ (codes "b") (decimal offset) none refl
@@ -127,60 +127,60 @@ module _ (name numbers : List ℕ) where
 
 -- what a line is that has this name and writes this
 pub step_line : (name numbers : List ℕ) (n : ℕ) → name ≡ codes "s" → 1 ≤ n → IsDecimal most_cycles numbers n →
-    IsCommand (name ++ 32 ∷ numbers) (Step n)
+    IsCommandLine (name ++ 32 ∷ numbers) (Step n)
 step_line name numbers n is least writes =
-    subst (λ (line : List ℕ). IsCommand line (Step n))
+    subst (λ (line : List ℕ). IsCommandLine line (Step n))
     (sym (ap (λ (text : List ℕ). text ++ 32 ∷ numbers) is ∙ ap (λ (text : List ℕ). 115 ∷ 32 ∷ text) writes.writes))
     (plain.step n (least, writes.small))
 
 pub go_line : (name numbers : List ℕ) (n : ℕ) → name ≡ codes "c" → 1 ≤ n → IsDecimal most_cycles numbers n →
-    IsCommand (name ++ 32 ∷ numbers) (Go n)
+    IsCommandLine (name ++ 32 ∷ numbers) (Go n)
 go_line name numbers n is least writes =
-    subst (λ (line : List ℕ). IsCommand line (Go n))
+    subst (λ (line : List ℕ). IsCommandLine line (Go n))
     (sym (ap (λ (text : List ℕ). text ++ 32 ∷ numbers) is ∙ ap (λ (text : List ℕ). 99 ∷ 32 ∷ text) writes.writes))
     (plain.go n (least, writes.small))
 
 pub breakpoint_line : (name numbers : List ℕ) (n : ℕ) → name ≡ codes "b" → IsDecimal (2 ^ 32 - 1) numbers n →
-    IsCommand (name ++ 32 ∷ numbers) (Breakpoint n)
+    IsCommandLine (name ++ 32 ∷ numbers) (Breakpoint n)
 breakpoint_line name numbers n is writes =
-    subst (λ (line : List ℕ). IsCommand line (Breakpoint n))
+    subst (λ (line : List ℕ). IsCommandLine line (Breakpoint n))
     (sym (ap (λ (text : List ℕ). text ++ 32 ∷ numbers) is ∙ ap (λ (text : List ℕ). 98 ∷ 32 ∷ text) writes.writes))
     (plain.breakpoint n (omega (arith, writes.small)))
 
 pub watch_line : (name numbers : List ℕ) (place : WordPlace) → name ≡ codes "w" → IsPlace numbers place →
-    IsCommand (name ++ 32 ∷ numbers) (Watch place)
+    IsCommandLine (name ++ 32 ∷ numbers) (Watch place)
 watch_line name numbers place is writes =
-    subst (λ (line : List ℕ). IsCommand line (Watch place))
+    subst (λ (line : List ℕ). IsCommandLine line (Watch place))
     (sym (ap (λ (text : List ℕ). text ++ 32 ∷ numbers) is ∙ ap (λ (text : List ℕ). 119 ∷ 32 ∷ text) writes.writes))
     (plain.watch place.id place.offset writes.id writes.offset)
 
 pub words_line : (numbers : List ℕ) (id offset n : ℕ) → id < 2 ^ 32 → offset < 2 ^ 32 → 1 ≤ n → n ≤ most_words → offset + n ≤ 2 ^ 32 →
     numbers ≡ decimal id ++ 32 ∷ (decimal offset ++ 32 ∷ decimal n) →
-    IsCommand (codes "a " ++ numbers) (Words (record { id = id; offset = offset }) n)
+    IsCommandLine (codes "a " ++ numbers) (Words (record { id = id; offset = offset }) n)
 words_line numbers id offset n lt small least most within writes =
-    subst (λ (line : List ℕ). IsCommand line (Words (record { id = id; offset = offset }) n))
+    subst (λ (line : List ℕ). IsCommandLine line (Words (record { id = id; offset = offset }) n))
     (words_text id offset n ∙ ap (λ (text : List ℕ). 97 ∷ 32 ∷ text) (sym writes))
     (plain.words id offset n lt small least most within)
 
 -- what a line isn't that has this name
 pub no_step : (name numbers : List ℕ) (command : Command) → HasNoSpace name → name ≡ codes "s" →
-    ((n : ℕ) → 1 ≤ n → IsDecimal most_cycles numbers n → ⊥) → IsCommand (name ++ 32 ∷ numbers) command → ⊥
+    ((n : ℕ) → 1 ≤ n → IsDecimal most_cycles numbers n → ⊥) → IsCommandLine (name ++ 32 ∷ numbers) command → ⊥
 no_step name numbers command none is lacks h = no_step_at name numbers command is lacks (named name numbers command none h)
 
 pub no_go : (name numbers : List ℕ) (command : Command) → HasNoSpace name → name ≡ codes "c" →
-    ((n : ℕ) → 1 ≤ n → IsDecimal most_cycles numbers n → ⊥) → IsCommand (name ++ 32 ∷ numbers) command → ⊥
+    ((n : ℕ) → 1 ≤ n → IsDecimal most_cycles numbers n → ⊥) → IsCommandLine (name ++ 32 ∷ numbers) command → ⊥
 no_go name numbers command none is lacks h = no_go_at name numbers command is lacks (named name numbers command none h)
 
 pub no_breakpoint : (name numbers : List ℕ) (command : Command) → HasNoSpace name → name ≡ codes "b" →
-    ((n : ℕ) → IsDecimal (2 ^ 32 - 1) numbers n → ⊥) → IsCommand (name ++ 32 ∷ numbers) command → ⊥
+    ((n : ℕ) → IsDecimal (2 ^ 32 - 1) numbers n → ⊥) → IsCommandLine (name ++ 32 ∷ numbers) command → ⊥
 no_breakpoint name numbers command none is lacks h = no_breakpoint_at name numbers command is lacks (named name numbers command none h)
 
 pub no_watch : (name numbers : List ℕ) (command : Command) → HasNoSpace name → name ≡ codes "w" →
-    ((place : WordPlace) → IsPlace numbers place → ⊥) → IsCommand (name ++ 32 ∷ numbers) command → ⊥
+    ((place : WordPlace) → IsPlace numbers place → ⊥) → IsCommandLine (name ++ 32 ∷ numbers) command → ⊥
 no_watch name numbers command none is lacks h = no_watch_at name numbers command is lacks (named name numbers command none h)
 
 pub no_name : (name numbers : List ℕ) (command : Command) → HasNoSpace name → name ≢ codes "s" → name ≢ codes "c" → name ≢ codes "b" →
-    name ≢ codes "w" → name ≢ codes "a" → IsCommand (name ++ 32 ∷ numbers) command → ⊥
+    name ≢ codes "w" → name ≢ codes "a" → IsCommandLine (name ++ 32 ∷ numbers) command → ⊥
 no_name name numbers command none s c b w a h = no_name_at name numbers command s c b w a (named name numbers command none h)
 
 -- what a line of words shows
@@ -203,7 +203,7 @@ shows_at name numbers _ is (go n cycles same writes) = absurd (clash name 97 99 
 shows_at name numbers _ is (breakpoint offset lt same writes) = absurd (clash name 97 98 (omega arith) is same)
 shows_at name numbers _ is (watch id offset lt small same writes) = absurd (clash name 97 119 (omega arith) is same)
 
-pub shows : (numbers : List ℕ) (command : Command) → IsCommand (codes "a " ++ numbers) command → Shows numbers
+pub shows : (numbers : List ℕ) (command : Command) → IsCommandLine (codes "a " ++ numbers) command → Shows numbers
 shows numbers command is =
     shows_at (codes "a") numbers command refl (named (codes "a") numbers command (one_letter 97 (omega arith)) is)
 
@@ -262,7 +262,7 @@ decimal_ascii : (n : ℕ) → n < 2 ^ 64 → IsAscii (decimal n)
 decimal_ascii n lt = IsAscii-decimal n lt
 
 -- the bytes of a command are ASCII
-pub command_ascii : (line : List ℕ) (command : Command) → IsCommand line command → IsAscii line
+pub command_ascii : (line : List ℕ) (command : Command) → IsCommandLine line command → IsAscii line
 command_ascii _ _ (plain.step n cycles) =
     after_space (codes "s") (decimal n) (letter_ascii 115 [] (omega arith) IsAscii-nil) (decimal_ascii n (omega (arith, cycles.1)))
 command_ascii _ _ (plain.go n cycles) =

@@ -13,10 +13,10 @@ use Rattle.um_debug.specs.declared.command.Command.{Command}
 use Rattle.um_debug.specs.declared.debugger.DebugEnd.{DebugEnd}
 use Rattle.um_debug.specs.declared.debugger.DebugEnd.TheVariants as ends
 use Rattle.um_debug.specs.Commands as commands
-use Rattle.um_debug.specs.Commands.{IsCommand}
+use Rattle.um_debug.specs.Commands.{IsCommandLine}
 use Rattle.um_debug.specs.Course.{Points}
 use Rattle.um_debug.specs.Replies.{unknown_text}
-use Rattle.um_debug.specs.Session.{Session, Answer, Answers, known, unknown, answer, tells, sent}
+use Rattle.um_debug.specs.Session.{Session, Answer, AnswersLine, known, unknown, answer, tells, sent}
 use Rattle.um_debug.specs.Debugging as debugging
 use Rattle.um_debug.specs.Debugging.{FailsAtReply, Fails}
 use Rattle.um_debug.specs.inner.Calls as calls
@@ -24,7 +24,7 @@ use Rattle.um_debug.specs.inner.Calls.{MayAsk, IsAnswer, session_of, CommandFail
 use Rattle.um_debug.proofs.Placing.{IsBehind, no_call, went_out}
 
 -- what a line asks for may be asked for
-pub may_ask : (line : List ℕ) (command : Command) → IsCommand line command → MayAsk command
+pub may_ask : (line : List ℕ) (command : Command) → IsCommandLine line command → MayAsk command
 may_ask _ _ (commands.step n is) = is.0
 may_ask _ _ (commands.go n is) = is.0
 may_ask _ _ (commands.breakpoint offset small) = tt
@@ -38,7 +38,7 @@ nothing_out : (s : State) (piece : List ℕ) → s ≡ record s { out = s.out ++
 nothing_out s piece = λ i. record s { out = sym (append-nil s.out) i }
 
 -- the answer stands, but nothing of it went out
-unsent : (L : Limits) (line : List ℕ) (s : Session) (a : Answer) (j : Identifiers) (t : State) → Answers L line s a →
+unsent : (L : Limits) (line : List ℕ) (s : Session) (a : Answer) (j : Identifiers) (t : State) → AnswersLine L line s a →
     j ≡ a.session.identifiers → t ≡ a.session.state → FailsAtReply L line s 0 j t
 unsent L line s a j t answers ids state = record {
   answer = a;
@@ -49,7 +49,7 @@ unsent L line s a j t answers ids state = record {
 }
 
 module _ (line : List ℕ) (input output : Type 0) (old new : MachineView) (before now : Points) (s t : State) where
-  known_fails : (command : Command) → IsCommand line command → (end : DebugEnd) →
+  known_fails : (command : Command) → IsCommandLine line command → (end : DebugEnd) →
       CommandFails old.limits command (session_of old s before) input output new.identifiers t end →
       Fails old.limits line (session_of old s before) input output new.identifiers t end
   known_fails command is _ (calls.command_failed why end few cut cause) =
@@ -59,7 +59,7 @@ module _ (line : List ℕ) (input output : Type 0) (old new : MachineView) (befo
       new.identifiers t (known command is) ids state)
 
   -- a line that is a command
-  known_ends : (command : Command) → IsCommand line command → (r : Result (Vec ℕ Global) DebugEnd) →
+  known_ends : (command : Command) → IsCommandLine line command → (r : Result (Vec ℕ Global) DebugEnd) →
       CommandEnds command input output old new before now s t r → AnswerEnds line input output old new before now s t r
   known_ends command is (Ok reply) e = (answer old.limits command (session_of old s before), known command is, e)
   known_ends command is (Err end) e = known_fails command is end e
@@ -91,7 +91,7 @@ module _ (line : List ℕ) (input output : Type 0) (old new : MachineView) (befo
 
 -- a line that is no command
 module _ (line : List ℕ) (input output : Type 0) (m : MachineView) (p : Points) (s : State)
-    (no : (command : Command) → IsCommand line command → ⊥) where
+    (no : (command : Command) → IsCommandLine line command → ⊥) where
   unknown_told : (reply : Vec ℕ Global) → reply.items ≡ sent (Some unknown_text) →
       AnswerEnds line input output m m p p s s (Ok reply)
   unknown_told reply e =
@@ -102,7 +102,7 @@ module _ (line : List ℕ) (input output : Type 0) (m : MachineView) (p : Points
       debugging.no_memory (unsent m.limits line (session_of m s p) (tells unknown_text (session_of m s p)) m.identifiers s (unknown no) refl refl)
 
 -- the same, of calls
-pub call_known : (line : List ℕ) (input output : Type 0) (x y : Seen) (before now : Points) (command : Command) → IsCommand line command →
+pub call_known : (line : List ℕ) (input output : Type 0) (x y : Seen) (before now : Points) (command : Command) → IsCommandLine line command →
     (r : Result (Vec ℕ Global) DebugEnd) →
     GoesFromTo x y (λ s t. CommandEnds command input output x.machine y.machine before now s t r) →
     GoesFromTo x y (λ s t. AnswerEnds line input output x.machine y.machine before now s t r)
@@ -111,7 +111,7 @@ call_known line input output x y before now command is r =
     (λ s t. AnswerEnds line input output x.machine y.machine before now s t r)
     (λ s t. known_ends line input output x.machine y.machine before now s t command is r)
 
-module _ (line : List ℕ) (input output : Type 0) (x : Seen) (p : Points) (no : (command : Command) → IsCommand line command → ⊥) where
+module _ (line : List ℕ) (input output : Type 0) (x : Seen) (p : Points) (no : (command : Command) → IsCommandLine line command → ⊥) where
   pub call_unknown : (reply : Vec ℕ Global) → reply.items ≡ sent (Some unknown_text) →
       GoesFromTo x x (λ s t. AnswerEnds line input output x.machine x.machine p p s t (Ok reply))
   call_unknown reply e =

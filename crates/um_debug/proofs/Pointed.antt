@@ -17,7 +17,7 @@ use Rattle.um_debug.specs.declared.command.WordPlace.{WordPlace}
 use Rattle.um_debug.specs.declared.course.Came.{Came}
 use Rattle.um_debug.specs.declared.course.Came.TheVariants as came
 use Rattle.um_debug.specs.Replies.{word_at}
-use Rattle.um_debug.specs.Course.{Points, Going, Goes, Ends, after_cycle, going_on, is_same_word, first_change, by_change, broke, seen_at, one_more, goes_for, IsCutShort}
+use Rattle.um_debug.specs.Course.{Points, Going, Goes, Ends, after_cycle, going_on, is_same_word, first_change, by_change, broke, seen_at, one_more, goes_for, IsCutOff}
 use Rattle.um_debug.specs.inner.Calls.{Course, AreWords, came_by}
 use Rattle.um_debug.proofs.Placing.{IsAt, placed, no_call}
 use Rattle.um_debug.proofs.Going.{came_to, running_there, halted_there, failed_there}
@@ -194,7 +194,7 @@ module _ (points : Points) (k : ℕ) (before between now : Seen) (same : between
 
     -- it failed
     cut : (stop : Stop) (s u t : State) → First s u → EndsEarly 1 between.machine now.machine u t stop →
-        IsCutShort before.machine.limits points n before.machine.identifiers s stop now.machine.identifiers t
+        IsCutOff before.machine.limits points n before.machine.identifiers s stop now.machine.identifiers t
     cut stop s u t first e =
         let none : e.made ≡ 0 = let f = e.fewer in omega (arith, f) in
         let stands : Stands u between.machine.identifiers ≡ Stands e.at now.machine.identifiers =

@@ -9,8 +9,9 @@ most_line_bytes = 64
 abbrev pub HasNoLineFeed : List ℕ → Type 0
 HasNoLineFeed bytes = All (λ byte. byte ≢ 10) bytes
 
--- The first line of bytes, and what is left of them: the bytes up to an LF, which is taken with them; or all
--- bytes, where there are some and no LF; or the first 64, where none of them is LF.
+-- The first line of bytes, and what is left of them: what stands before the first LF, which is taken with it, where
+-- that is fewer than 64 bytes; or all bytes, where they are fewer, at least one, and none is LF; or the first 64, where
+-- none of them is LF.
 pub data IsLine : (bytes line rest : List ℕ) → Type 0 where
   ended : (line rest : List ℕ) → length line < most_line_bytes → HasNoLineFeed line →
       IsLine (line ++ 10 ∷ rest) line rest

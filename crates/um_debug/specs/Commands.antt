@@ -16,16 +16,16 @@ abbrev pub most_words : ℕ
 most_words = 64
 
 -- The lines that are commands, and no others. Numbers are in decimal, and one space separates words.
-pub data IsCommand : List ℕ → Command → Type 0 where
-  step : (n : ℕ) → IsCycles n → IsCommand (codes "s " ++ decimal n) (Step n)
-  go : (n : ℕ) → IsCycles n → IsCommand (codes "c " ++ decimal n) (Go n)
-  breakpoint : (offset : ℕ) → offset < 2 ^ 32 → IsCommand (codes "b " ++ decimal offset) (Breakpoint offset)
+pub data IsCommandLine : List ℕ → Command → Type 0 where
+  step : (n : ℕ) → IsCycles n → IsCommandLine (codes "s " ++ decimal n) (Step n)
+  go : (n : ℕ) → IsCycles n → IsCommandLine (codes "c " ++ decimal n) (Go n)
+  breakpoint : (offset : ℕ) → offset < 2 ^ 32 → IsCommandLine (codes "b " ++ decimal offset) (Breakpoint offset)
   watch : (id offset : ℕ) → id < 2 ^ 32 → offset < 2 ^ 32 →
-      IsCommand (codes "w " ++ decimal id ++ codes " " ++ decimal offset)
+      IsCommandLine (codes "w " ++ decimal id ++ codes " " ++ decimal offset)
       (Watch (record { id = id; offset = offset }))
-  registers : IsCommand (codes "r") Registers
+  registers : IsCommandLine (codes "r") Registers
   words : (id offset n : ℕ) → id < 2 ^ 32 → offset < 2 ^ 32 → 1 ≤ n → n ≤ most_words → offset + n ≤ 2 ^ 32 →
-      IsCommand (codes "a " ++ decimal id ++ codes " " ++ decimal offset ++ codes " " ++ decimal n)
+      IsCommandLine (codes "a " ++ decimal id ++ codes " " ++ decimal offset ++ codes " " ++ decimal n)
       (Words (record { id = id; offset = offset }) n)
-  finger : IsCommand (codes "f") Finger
-  quit : IsCommand (codes "q") Quit
+  finger : IsCommandLine (codes "f") Finger
+  quit : IsCommandLine (codes "q") Quit

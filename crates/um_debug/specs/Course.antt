@@ -80,7 +80,7 @@ goes_for L points (suc n) i s = one_more L points (goes_for L points n i s)
 
 -- After so many of n cycles, which would go on, the next one failed for another cause than the table's: the
 -- machine stands as before it, but for the byte of a failed Output, which may be out.
-pub record IsCutShort (L : Limits) (points : Points) (n : ℕ) (i : Identifiers) (s : State) (why : Stop)
+pub record IsCutOff (L : Limits) (points : Points) (n : ℕ) (i : Identifiers) (s : State) (why : Stop)
     (j : Identifiers) (t : State) : Type 0 where
   pub made : ℕ
   pub fewer : made < n

@@ -8,7 +8,7 @@ use Rattle.um_debug.specs.declared.command.Command.{Command}
 use Rattle.um_debug.specs.declared.command.Command.TheVariants.{Step, Go, Breakpoint, Watch, Registers, Words, Finger, Quit}
 use Rattle.um_debug.specs.declared.command.WordPlace.{WordPlace}
 use Rattle.um_debug.specs.declared.course.Came.TheVariants.{Stopped}
-use Rattle.um_debug.specs.Commands.{IsCommand, most_cycles}
+use Rattle.um_debug.specs.Commands.{IsCommandLine, most_cycles}
 use Rattle.um_debug.specs.Course.{Points, no_points, Going, Goes, Ends, goes_for}
 use Rattle.um_debug.specs.Replies.{came_text, registers_text, words_text, finger_text, unknown_text}
 
@@ -100,12 +100,12 @@ answer L Finger s = tells (finger_text s.state.arrays s.state.cycles s.state.fin
 answer L Quit s = record { session = s; reply = None }
 
 -- the answer to a line: that of its command, or that it is none
-pub data Answers (L : Limits) (line : List ℕ) (s : Session) : Answer → Type 0 where
-  known : (command : Command) → IsCommand line command → Answers L line s (answer L command s)
-  unknown : ((command : Command) → IsCommand line command → ⊥) → Answers L line s (tells unknown_text s)
+pub data AnswersLine (L : Limits) (line : List ℕ) (s : Session) : Answer → Type 0 where
+  known : (command : Command) → IsCommandLine line command → AnswersLine L line s (answer L command s)
+  unknown : ((command : Command) → IsCommandLine line command → ⊥) → AnswersLine L line s (tells unknown_text s)
 
 -- the lines are answered, one after the other
 pub data Obeys (L : Limits) : List (List ℕ) → Session → Session → Type 0 where
   none : (s : Session) → Obeys L [] s s
   more : (line : List ℕ) (lines : List (List ℕ)) (s : Session) (a : Answer) (t : Session) →
-      Answers L line s a → Obeys L lines (after a) t → Obeys L (line ∷ lines) s t
+      AnswersLine L line s a → Obeys L lines (after a) t → Obeys L (line ∷ lines) s t

@@ -1,7 +1,7 @@
 //! The lines of a session that are commands.
 
 ghost use Rattle.std.specs.Prelude.{◌≡◌, ◌≤◌, ◌-◌, ◌^◌, ◌++◌, ◌∷◌, ℕ, codes, MatchOption};
-ghost use Rattle.um_debug.specs.Commands.{IsCommand};
+ghost use Rattle.um_debug.specs.Commands.{IsCommandLine};
 ghost use Rattle.um_debug.specs.inner.Numbers.{IsDecimal, HasNoSpace, IsPlace};
 
 use itoa::Buffer;
@@ -42,8 +42,8 @@ pub(crate) enum Command {
 
 /// The command that a line is, or `None` exactly where it is none.
 pub(crate) fn command_of(line: &[u8]) -> Option<Command>
-    ensures { MatchOption result ((command : Command) → IsCommand line.now command → ⊥)
-        (IsCommand line.now) }
+    ensures { MatchOption result ((command : Command) → IsCommandLine line.now command → ⊥)
+        (IsCommandLine line.now) }
 {
     let Ok(line) = str::from_utf8(line) else {
         return None;
@@ -57,8 +57,8 @@ pub(crate) fn command_of(line: &[u8]) -> Option<Command>
 // a command without numbers
 fn of_one_word(line: &str) -> Option<Command>
     requires { HasNoSpace line.now }
-    ensures { MatchOption result ((command : Command) → IsCommand line.now command → ⊥)
-        (IsCommand line.now) }
+    ensures { MatchOption result ((command : Command) → IsCommandLine line.now command → ⊥)
+        (IsCommandLine line.now) }
 {
     if line == "r" {
         return Some(Command::Registers);
@@ -76,8 +76,8 @@ fn of_one_word(line: &str) -> Option<Command>
 fn with_numbers(name: &str, numbers: &str) -> Option<Command>
     requires { HasNoSpace name.now }
     ensures { MatchOption result
-        ((command : Command) → IsCommand (name.now ++ 32 ∷ numbers.now) command → ⊥)
-        (IsCommand (name.now ++ 32 ∷ numbers.now)) }
+        ((command : Command) → IsCommandLine (name.now ++ 32 ∷ numbers.now) command → ⊥)
+        (IsCommandLine (name.now ++ 32 ∷ numbers.now)) }
 {
     if name == "s" {
         return Some(Command::Step(cycles_of(numbers)?));
@@ -133,8 +133,8 @@ fn place_of(numbers: &str) -> Option<WordPlace>
 // the command that shows words, with these numbers
 fn words_of(numbers: &str) -> Option<Command>
     ensures { MatchOption result
-        ((command : Command) → IsCommand (codes "a " ++ numbers.now) command → ⊥)
-        (IsCommand (codes "a " ++ numbers.now)) }
+        ((command : Command) → IsCommandLine (codes "a " ++ numbers.now) command → ⊥)
+        (IsCommandLine (codes "a " ++ numbers.now)) }
 {
     let (id, others) = numbers.split_once(' ')?;
     let (offset, count) = others.split_once(' ')?;

@@ -55,6 +55,8 @@ pub fn debug<I: Source, J: Source, O: Sink>(
     ensures session { let seen = seen_by J.Source O.Sink in
         Debugged I.Source J.Source O.Sink turns (seen machine.old input.old out.old)
         (seen machine.new input.new out.new) commands.old commands.new input.old input.new out.old out.new result }
+    ensures read { result ≡ DebugEnd.ReadFault → Rose (I.faults commands.old) (I.faults commands.new)
+        ⊎ Rose (J.faults input.old) (J.faults input.new) }
     ensures limits { machine.new.limits ≡ machine.old.limits }
     ensures commands { IsAsked I.Source commands.old commands.new (⊥) }
     ensures input { IsAsked J.Source input.old input.new (⊥) }

@@ -24,9 +24,9 @@ use Rattle.um_debug.specs.declared.debugger.DebugEnd.{DebugEnd}
 use Rattle.um_debug.specs.declared.debugger.DebugEnd.TheVariants as ends
 use Rattle.um_debug.specs.Commands.{most_cycles}
 use Rattle.um_debug.specs.CommandLines.{IsLine, HasNoLineFeed, most_line_bytes}
-use Rattle.um_debug.specs.Course.{Points, Going, Goes, Ends, goes_for, IsCutShort}
+use Rattle.um_debug.specs.Course.{Points, Going, Goes, Ends, goes_for, IsCutOff}
 use Rattle.um_debug.specs.Replies.{word_at}
-use Rattle.um_debug.specs.Session.{Session, Answer, Toggled, Off, On, Full, after, sent, answer, cycles_answer, Answers}
+use Rattle.um_debug.specs.Session.{Session, Answer, Toggled, Off, On, Full, after, sent, answer, cycles_answer, AnswersLine}
 use Rattle.um_debug.specs.Debugging.{EndsBy, Fails, cycles_of, looks_at}
 
 -- a line that was taken from bytes that may have been there before, whatever may be left
@@ -66,7 +66,7 @@ abbrev pub Course : Points → ℕ → (input output : Type 0) → (old new : Ma
 Course points n input output old new s t (Ok came) =
     CameTo (goes_for old.limits points n old.identifiers s) new.identifiers t came
 Course points n input output old new s t (Err end) =
-    (why : Stop) × IsCutShort old.limits points n old.identifiers s why new.identifiers t × EndsBy input output why end
+    (why : Stop) × IsCutOff old.limits points n old.identifiers s why new.identifiers t × EndsBy input output why end
 
 -- the words of these places are these, in order
 abbrev pub AreWords : Arrays → List WordPlace → List (Option ℕ) → Type 0
@@ -103,7 +103,7 @@ pub record IsAnswer (answer : Answer) (now : Session) (reply : List ℕ) : Type 
 pub data CyclesFail (points : Points) (n : ℕ) (input output : Type 0) (old new : MachineView) (s t : State) :
     DebugEnd → Type 0 where
   cycle_failed : (why : Stop) (end : DebugEnd) → s.cycles + n ≤ most_cycles →
-      IsCutShort old.limits points n old.identifiers s why new.identifiers t → EndsBy input output why end →
+      IsCutOff old.limits points n old.identifiers s why new.identifiers t → EndsBy input output why end →
       CyclesFail points n input output old new s t end
   no_memory : ((p : Points) → (cycles_answer old.limits points n (session_of old s p)).session ≡ session_of new t p) →
       CyclesFail points n input output old new s t ends.Memory
@@ -126,7 +126,7 @@ MayAsk command = Unit {0}
 pub data CommandFails (L : Limits) (command : Command) (s : Session) (input output : Type 0) (j : Identifiers) (t : State) :
     DebugEnd → Type 0 where
   command_failed : (why : Stop) (end : DebugEnd) → s.state.cycles + cycles_of command ≤ most_cycles →
-      IsCutShort L (looks_at command s.points) (cycles_of command) s.identifiers s.state why j t → EndsBy input output why end →
+      IsCutOff L (looks_at command s.points) (cycles_of command) s.identifiers s.state why j t → EndsBy input output why end →
       CommandFails L command s input output j t end
   no_reply : j ≡ (answer L command s).session.identifiers → t ≡ (answer L command s).session.state →
       CommandFails L command s input output j t ends.Memory
@@ -143,7 +143,7 @@ CommandEnds command input output old new before now s t (Err end) =
 abbrev pub AnswerEnds : List ℕ → (input output : Type 0) → (old new : MachineView) → (before now : Points) →
     (s t : State) → Result (Vec ℕ Global) DebugEnd → Type 0
 AnswerEnds line input output old new before now s t (Ok reply) =
-    (a : Answer) × Answers old.limits line (session_of old s before) a × IsAnswer a (session_of new t now) reply.items
+    (a : Answer) × AnswersLine old.limits line (session_of old s before) a × IsAnswer a (session_of new t now) reply.items
 AnswerEnds line input output old new before now s t (Err end) =
     Fails old.limits line (session_of old s before) input output new.identifiers t end
 
@@ -151,7 +151,7 @@ AnswerEnds line input output old new before now s t (Err end) =
 abbrev pub ObeyEnds : List ℕ → (input output : Type 0) → (old new : MachineView) → (before now : Points) →
     (s t : State) → Result (Unit {0}) DebugEnd → Type 0
 ObeyEnds line input output old new before now s t (Ok done) =
-    (a : Answer) × Answers old.limits line (session_of old s before) a × (after a ≡ session_of new t now)
+    (a : Answer) × AnswersLine old.limits line (session_of old s before) a × (after a ≡ session_of new t now)
 ObeyEnds line input output old new before now s t (Err end) =
     Fails old.limits line (session_of old s before) input output new.identifiers t end
 

@@ -2,7 +2,7 @@ use Rattle.std.proofs.Common.{ℕ, List, sym, ◌∙◌, subst}
 use Rattle.std.specs.Option.{MatchOption}
 use Rattle.std.proofs.lemmas.Str.{IsUtf8-from_ascii}
 use Rattle.um_debug.specs.declared.command.Command.{Command}
-use Rattle.um_debug.specs.Commands.{IsCommand}
+use Rattle.um_debug.specs.Commands.{IsCommandLine}
 use Rattle.um_debug.proofs.Spaces.{whole_word, cut_word}
 use Rattle.um_debug.proofs.Naming.{command_ascii}
 use Rattle.um_debug.proofs.command.command_of.Goals as goal
@@ -20,5 +20,5 @@ of_one_word-requires c = whole_word c.in-Ok.line.now c.split_once.result c.in-No
 pub returns-in-Some : goal.returns-in-Some
 returns-in-Some c =
     let cut = cut_word c.in-Ok.line.now c.split_once.result c.in-Some.name c.in-Some.numbers c.in-Some.is c.split_once.ensures.cases in
-    subst (λ (line : List ℕ). MatchOption c.with_numbers.result ((command : Command) → IsCommand line command → ⊥) (IsCommand line))
+    subst (λ (line : List ℕ). MatchOption c.with_numbers.result ((command : Command) → IsCommandLine line command → ⊥) (IsCommandLine line))
     (sym cut.is ∙ c.in-Ok.ensures.cases.0) c.with_numbers.ensures

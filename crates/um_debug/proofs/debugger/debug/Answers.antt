@@ -1,4 +1,5 @@
-use Rattle.std.proofs.Common.{◌<◌, [], ◌∷◌, ◌++◌, refl, sym, ◌∙◌, subst, arith}
+use Rattle.std.proofs.Common.{◌<◌, [], ◌∷◌, ◌++◌, refl, sym, ap, ◌∙◌, subst, inl, inr, arith}
+use Rattle.std.specs.Prelude.{Err}
 use Rattle.std.proofs.lemmas.Bool.Decides.{Decides-eqb, not_from_Decides}
 use Rattle.std.proofs.lemmas.Slice.Eq.{slice_eq-Decides}
 use Rattle.um_machine.proofs.Rests.{rose_later}
@@ -44,7 +45,9 @@ returns-in-Err-obey-clause-session g c =
     let l = c.loop.invariant.lines in
     let took = rw c.in-Ok-Some.field-0-is at c.in-Ok-Some.ensures.takes in
     at_failure g.I.Source g.J.Source g.O.Sink c.args.turns _ _ l.0 c.loop.points _ c.loop.commands _ _ _ _ l.2 l.3
-    (subst (λ k. k < c.args.turns) (sym l.1) c.loop-test.true) _ _ took _ c.obey.new.points
+    (subst (λ k. k < c.args.turns) (sym l.1) c.loop-test.true) _ _ took
+    (λ same. not_from_Decides _ (slice_eq-Decides Decides-eqb _ _ _ c.eq.ensures) c.if-eq.false
+    (c.bytes.ensures ∙ same ∙ sym c.as_slice.ensures)) _ c.obey.new.points
     (InputRose g.J.Source c.loop.input c.obey.new.input) (OutputRose g.O.Sink c.loop.out c.obey.new.out) c.in-Err-obey.end
     c.loop.invariant.limits
     (rose_later _ _ _ c.loop.invariant.reads) (rose_later _ _ _ c.loop.invariant.writes)
@@ -78,3 +81,9 @@ returns-clause-session g c =
     let l = c.loop.invariant.lines in
     at_turns g.I.Source g.J.Source g.O.Sink c.args.turns _ _ l.0 c.loop.points _ c.loop.commands _ _ _ _ l.2 l.3
     (l.1 ∙ omega (arith, c.loop-test.false, c.loop.auto.counter-end))
+
+pub returns-in-Err-clause-read : goal.returns-in-Err-clause-read
+returns-in-Err-clause-read g c = λ same. inl (rose_later _ _ _ c.loop.invariant.asks (c.in-Err.ensures.cause.rose refl))
+
+pub returns-in-Err-obey-clause-read : goal.returns-in-Err-obey-clause-read
+returns-in-Err-obey-clause-read g c = λ same. inr (rose_later _ _ _ c.loop.invariant.reads (c.in-Err-obey.ensures.input.rose (ap Err same)))
