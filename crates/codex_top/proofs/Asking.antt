@@ -95,3 +95,4 @@ is_allowed _ _ (plain.run file) = omega arith
 is_allowed _ _ (plain.run_for file number n writes) = writes.small
 is_allowed _ _ (plain.asm file out) = tt
 is_allowed _ _ (plain.dis file) = tt
+is_allowed _ _ (plain.debug file input) = tt

@@ -84,7 +84,7 @@ module _ (file text : List ℕ) (P : Program) (o n : Outside) (tells : Tells o f
   compile_done : (out : List ℕ) (end : End) → CompileEnds file out o.shelf n.shelf end → IsOrWants (Ok Done) end
   compile_done out _ (compiles.unread l read only) = inr (ap Err (only_memory l read))
   compile_done out _ (compiles.no_memory only) = inr refl
-  compile_done out end (compiles.compiled Q words blocks _ read small realises follows put) = compile_written out words end put
+  compile_done out end (compiles.compiled Q words blocks _ read small few realises follows put) = compile_written out words end put
 
   module _ (events : ℕ) (r : Meaning) (within : IsMeantWithin events P r) where
     outcome_done : (end : End) → OutcomeEnds events P o.streams.output n.streams.output end → WritesOrWants (Ok (finish_of r.outcome)) end (text_of P r.outcome) o n
@@ -168,7 +168,7 @@ compiled_from : (file text out bytes : List ℕ) (P : Program) (before after : O
     RunCommandEnds out cycles o n ended → WritesOrWants (Ok Done) ended (text_of P r.outcome) o n
 compiled_from file text out bytes P before after _ tells is e (compiles.unread l read only) wrote r has ample cycles o n ended enough has_out unfailed ends = absurd (cc)
 compiled_from file text out bytes P before after _ tells is e (compiles.no_memory only) wrote r has ample cycles o n ended enough has_out unfailed ends = absurd (cc)
-compiled_from file text out bytes P before after end tells is e (compiles.compiled Q words blocks _ read small realises follows put) wrote r has ample cycles o n ended enough has_out unfailed ends =
+compiled_from file text out bytes P before after end tells is e (compiles.compiled Q words blocks _ read small few realises follows put) wrote r has ample cycles o n ended enough has_out unfailed ends =
     let there = program_there before file text after.shelf Q tells read in
     let fits = program_fits text Q there.0 in
     let short : length words ≤ 12_585_984 = omega (arith, follows.short, there.1, fits) in

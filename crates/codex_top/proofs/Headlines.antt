@@ -316,7 +316,7 @@ carried : (file text out : List ℕ) (before after : Outside) (end : End) → Te
     IsCompiled file text out after
 carried file text out before after _ tells e (compiles.unread l read only) = absurd (cc)
 carried file text out before after _ tells e (compiles.no_memory only) = absurd (cc)
-carried file text out before after end tells e (compiles.compiled P words blocks _ read small realises follows put) =
+carried file text out before after end tells e (compiles.compiled P words blocks _ read small few realises follows put) =
     let there = program_there before file text after.shelf P tells read in
     let fits = program_fits text P there.0 in
     let short : length words ≤ 12_585_984 = omega (arith, follows.short, there.1, fits) in

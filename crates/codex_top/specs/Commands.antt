@@ -2,7 +2,7 @@
 use Rattle.std.specs.Prelude.{◌≡◌, ℕ, List, Err}
 use Rattle.codex_top.specs.declared.status.Status.{Status}
 use Rattle.codex_top.specs.declared.line.Line.TheVariants.{Usage, NoMemory}
-use Rattle.codex_top.specs.Words.{Job, checks, evaluates, traces, compiles, runs, assembles, lists, Asks}
+use Rattle.codex_top.specs.Words.{Job, checks, evaluates, traces, compiles, runs, assembles, lists, debugs, Asks}
 use Rattle.codex_top.specs.Outside.{Stream, Outside, IsOnlyRead, IsOnlyWritten}
 use Rattle.codex_top.specs.Endings.{End, IsTold}
 use Rattle.codex_top.specs.CheckCommand.{CheckEnds}
@@ -12,6 +12,7 @@ use Rattle.codex_top.specs.CompileCommand.{CompileEnds}
 use Rattle.codex_top.specs.RunCommand.{RunCommandEnds}
 use Rattle.codex_top.specs.AsmCommand.{AssemblyEnds}
 use Rattle.codex_top.specs.DisCommand.{ListingEnds}
+use Rattle.codex_top.specs.DebugCommand.{DebugCommandEnds}
 
 -- how a job ends
 abbrev pub JobEnds : Job → (before now : Outside) → End → Type 0
@@ -30,6 +31,8 @@ JobEnds (assembles file out) before now end =
     (now.streams ≡ before.streams) × AssemblyEnds file out before.shelf now.shelf end
 JobEnds (lists file) before now end =
     IsOnlyWritten before now × ListingEnds file before.shelf now.shelf before.streams.output now.streams.output end
+JobEnds (debugs file input) before now end =
+    IsOnlyRead before.shelf now.shelf × DebugCommandEnds file input before now end
 
 -- how a list of words ends: the job that it asks for was done; or it asks for none, or there was no memory
 -- to read it, and nothing was touched

@@ -1,7 +1,7 @@
 -- The program's jobs as plain data.
 use Rattle.fire_eval.specs.Evaluation.{choice_of}
 use Rattle.codex_top.specs.declared.words.Job.{Job}
-use Rattle.codex_top.specs.declared.words.Job.TheVariants.{Check, Eval, Trace, Compile, Run, Asm, Dis}
+use Rattle.codex_top.specs.declared.words.Job.TheVariants.{Check, Eval, Trace, Compile, Run, Asm, Dis, Debug}
 use Rattle.codex_top.specs.Words as plain
 
 abbrev pub work_of : Job → plain.Job
@@ -12,3 +12,4 @@ work_of (Compile file out) = plain.compiles file.now out.now
 work_of (Run file cycles) = plain.runs file.now cycles
 work_of (Asm file out) = plain.assembles file.now out.now
 work_of (Dis file) = plain.lists file.now
+work_of (Debug file input) = plain.debugs file.now input.now

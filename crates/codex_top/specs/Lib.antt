@@ -17,6 +17,7 @@ pub mod CompileCommand
 pub mod RunCommand
 pub mod AsmCommand
 pub mod DisCommand
+pub mod DebugCommand
 pub mod Commands
 pub mod Headline
 pub mod Completeness

@@ -18,3 +18,11 @@ most_text_bytes = 300_000_000
 -- the most bytes of a grid
 abbrev pub most_grid_bytes : ℕ
 most_grid_bytes = 262_144
+
+-- the most bytes of the input of a scroll that is debugged
+abbrev pub most_input_bytes : ℕ
+most_input_bytes = 67_108_864
+
+-- the most command lines of one session
+abbrev pub most_lines : ℕ
+most_lines = 1_000_000

@@ -9,7 +9,7 @@ use Rattle.codex_top.specs.declared.line.TheConstants.{USAGE}
 use Rattle.codex_top.specs.declared.line.Limit.{Limit}
 use Rattle.codex_top.specs.declared.line.Limit.TheVariants.{ArraysFull, WordsFull}
 use Rattle.codex_top.specs.declared.line.Counted.{Counted}
-use Rattle.codex_top.specs.declared.line.Counted.TheVariants.{Cycles, Events}
+use Rattle.codex_top.specs.declared.line.Counted.TheVariants.{Cycles, Events, Lines}
 use Rattle.codex_top.specs.declared.line.Line.{Line}
 use Rattle.codex_top.specs.declared.line.Line.TheVariants.{Usage, Refused, Fault, Limited, Budget, ReadFault, WriteFault, NoMemory}
 use Rattle.codex_top.specs.Limits.{limits}
@@ -32,6 +32,7 @@ limit_number (WordsFull count) = limits.words
 abbrev pub counted_name : Counted → List ℕ
 counted_name Cycles = codes "cycles"
 counted_name Events = codes "events"
+counted_name Lines = codes "lines"
 
 -- the line of a refusal with this number, this name, and this after the name
 abbrev pub refused : ℕ → List ℕ → After → Line

@@ -14,6 +14,7 @@ pub data Job : Type 0 where
   runs : (file : List ℕ) (cycles : ℕ) → Job
   assembles : (file out : List ℕ) → Job
   lists : (file : List ℕ) → Job
+  debugs : (file input : List ℕ) → Job
 
 -- the word writes this number in decimal, and it is at most `most`
 pub record IsDecimal (most : ℕ) (word : List ℕ) (n : ℕ) : Type 0 where
@@ -48,6 +49,7 @@ pub data Asks : List (List ℕ) → Job → Type 0 where
       Asks (codes "run" ∷ file ∷ number ∷ []) (runs file n)
   asm : (file out : List ℕ) → Asks (codes "asm" ∷ file ∷ out ∷ []) (assembles file out)
   dis : (file : List ℕ) → Asks (codes "dis" ∷ file ∷ []) (lists file)
+  debug : (file input : List ℕ) → Asks (codes "debug" ∷ file ∷ input ∷ []) (debugs file input)
 
 -- some picks come next, whichever events are ready
 abbrev pub PicksSome : Choice → Type 0

@@ -4,6 +4,7 @@
 mod asm;
 mod check;
 mod compile;
+mod debug;
 mod dis;
 mod end;
 mod eval;

@@ -30,6 +30,8 @@ pub enum Counted {
     Cycles,
     /// Events of an evaluation.
     Events,
+    /// Command lines of a session.
+    Lines,
 }
 
 /// Why a command's work isn't done, as a line tells it. See "Lines" in docs/COMMANDS.md.
@@ -109,6 +111,7 @@ impl Counted {
         match self {
             Counted::Cycles => "cycles",
             Counted::Events => "events",
+            Counted::Lines => "lines",
         }
     }
 }

@@ -1,8 +1,9 @@
 //! The command `run`: runs a scroll.
 
-ghost use Rattle.std.specs.Prelude.{◌≡◌, ◌≤◌, ◌+◌, ◌*◌, ◌<◌, ◌^◌, ℕ, length};
+ghost use Rattle.std.specs.Prelude.{◌≡◌, ◌≤◌, ◌+◌, ◌*◌, ◌<◌, ◌^◌, ℕ, length, IfOk, IfErr};
 ghost use Rattle.um_word.specs.Scroll.{most_scroll_bytes, scroll};
-ghost use Rattle.codex_top.specs.Limits.{most_made};
+ghost use Rattle.um_machine.specs.MachineView.{machine_of};
+ghost use Rattle.codex_top.specs.Limits.{limits, most_made};
 ghost use Rattle.codex_top.specs.Outside.{outside, streams, AreCounted};
 ghost use Rattle.codex_top.specs.RunCommand.{RunCommandEnds, ScrollEnds, end_of_run};
 
@@ -14,6 +15,7 @@ use std::alloc::Global;
 use um_machine::{Machine, Stop};
 use umix_base::{Limits, Shelf, Sink, Source};
 
+/// The limits of every machine.
 const LIMITS: Limits = Limits {
     arrays: MOST_ARRAYS,
     words: MOST_WORDS,
@@ -60,14 +62,23 @@ fn run_words<I: Source, O: Sink>(
         (streams I.Source O.Sink input.old out.old)
         (streams I.Source O.Sink input.new out.new) }
 {
-    let mut machine = match Machine::new(alloc, words, LIMITS) {
-        Ok(machine) => machine,
-        // A scroll has fewer words than the limit allows.
-        Err(Stop::WordsFull(_)) => unreachable!(),
-        Err(_) => return Err(Line::NoMemory),
-    };
+    let mut machine = start(alloc, words)?;
     let stop = machine.run(input, out, cycles);
     end_of(cycles, machine.cycles(), stop)
+}
+
+/// The machine with which the run of a scroll's words begins, or there is no memory for it.
+pub(crate) fn start(alloc: Global, words: Vec<u32>) -> Result<Machine, Line>
+    requires words { length (scroll words.items) ≤ most_scroll_bytes }
+    ensures machine { IfOk result (λ machine. machine ≡ machine_of words.items limits) }
+    ensures line { IfErr result (λ line. line ≡ Line.NoMemory) }
+{
+    match Machine::new(alloc, words, LIMITS) {
+        Ok(machine) => Ok(machine),
+        // A scroll has fewer words than the limit allows.
+        Err(Stop::WordsFull(_)) => unreachable!(),
+        Err(_) => Err(Line::NoMemory),
+    }
 }
 
 // the end of a run that had so many cycles to make and stopped after so many were made

@@ -18,7 +18,7 @@ pub enum Status {
     MachineFault,
     /// An Allocation or a Load would pass a limit.
     Limit,
-    /// As many cycles or events were made as were allowed, and the work isn't over.
+    /// As many cycles, events or command lines were made as were allowed, and the work isn't over.
     Budget,
     /// A file or the input couldn't be read.
     ReadFault,

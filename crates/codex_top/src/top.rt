@@ -12,6 +12,7 @@ use crate::Status;
 use crate::asm::asm;
 use crate::check::check;
 use crate::compile::compile;
+use crate::debug::debug;
 use crate::dis::dis;
 use crate::end::End;
 use crate::eval::eval;
@@ -95,6 +96,7 @@ fn work<F: Shelf, I: Source, O: Sink>(
         Job::Run { file, cycles } => run(alloc, file, cycles, shelf, input, out),
         Job::Asm { file, out } => asm(alloc, file, out, shelf),
         Job::Dis { file } => dis(alloc, file, shelf, out),
+        Job::Debug { file, input: bytes } => debug(alloc, file, bytes, shelf, input, out),
     }
 }
 

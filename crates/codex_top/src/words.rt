@@ -53,6 +53,11 @@ pub enum Job<'a> {
     Dis {
         file: &'a str,
     },
+    /// To debug the scroll in `file`, whose input is the file `input`.
+    Debug {
+        file: &'a str,
+        input: &'a str,
+    },
 }
 
 /// The job of a list of words, or `None` exactly where it asks for none.
@@ -144,6 +149,12 @@ fn job_of_three<'a>(
         return Ok(Some(Job::Asm {
             file: first,
             out: second,
+        }));
+    }
+    if command == "debug" {
+        return Ok(Some(Job::Debug {
+            file: first,
+            input: second,
         }));
     }
     Ok(None)

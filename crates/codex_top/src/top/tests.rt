@@ -2,6 +2,8 @@
 
 mod grids;
 mod limits;
+mod loads;
+mod sessions;
 
 use crate::{Status, codex};
 use std::alloc::Global;
@@ -289,6 +291,8 @@ fn command_lines(rt: HostRuntime) -> Result<(), Fail> {
         ),
         words(&["run", "f", "0"], b"", "budget 0 cycles\n", Status::Budget),
         words(&["run", "none.um"], b"", "read fault\n", Status::ReadFault),
+        words(&["debug", "f"], b"", USAGE, Status::Usage),
+        words(&["selftest", "1"], b"", USAGE, Status::Usage),
     ];
     for row in &rows {
         check(&rt, row)?;

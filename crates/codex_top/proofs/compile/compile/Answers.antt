@@ -1,7 +1,9 @@
+use Rattle.std.proofs.Common.{◌≤◌, length, arith}
 use Rattle.std.specs.Prelude.{Err, Ok}
 use Rattle.std.proofs.lemmas.Result.{err_from_is_err_and}
 use Rattle.codex_top.specs.CompileCommand.{unread, no_memory, compiled}
-use Rattle.codex_top.proofs.FileLemmas.{scroll_after}
+use Rattle.um_word.specs.Scroll.{scroll, most_scroll_bytes}
+use Rattle.codex_top.proofs.FileLemmas.{length-scroll, scroll_after}
 use Rattle.codex_top.proofs.ProgramLemmas.{program_stays}
 use Rattle.codex_top.proofs.compile.compile.Goals as goal
 
@@ -17,8 +19,10 @@ returns-in_err-linked-clause-ends g c =
 
 pub returns-clause-ends : goal.returns-clause-ends
 returns-clause-ends g c =
+    let short : length c.in_ok-linked.linked.words.items ≤ 12_585_984 = omega (arith, c.in_ok-linked.ensures.follows.short, c.in_ok-program.ensures.weighs) in
+    let few : length (scroll c.in_ok-linked.linked.words.items) ≤ most_scroll_bytes = omega (arith, short, length-scroll c.in_ok-linked.linked.words.items) in
     compiled c.in_ok-program.program c.in_ok-linked.linked.words.items c.in_ok-linked.linked.blocks.items c.write_scroll.result
     (program_stays c.args.file.now _ _ _ c.in_ok-program.program c.in_ok-program.ensures.read)
-    (rw c.deref.ensures.value at c.words_fit.ensures) c.in_ok-linked.ensures.realises c.in_ok-linked.ensures.follows
+    (rw c.deref.ensures.value at c.words_fit.ensures) few c.in_ok-linked.ensures.realises c.in_ok-linked.ensures.follows
     (scroll_after c.args.out.now c.in_ok-linked.linked.words.items _ _ _ c.write_scroll.result c.in_ok-program.ensures.files c.in_ok-program.ensures.writes
     (rw c.deref-2.ensures.value at c.write_scroll.ensures.ends))

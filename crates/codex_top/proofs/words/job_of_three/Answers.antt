@@ -2,7 +2,7 @@ use Rattle.std.proofs.Common.{rules, ◌≡◌, [], ◌∷◌, sym, subst}
 use Rattle.std.specs.Prelude.{codes}
 use Rattle.fire_eval.specs.Evaluation.{choice_of}
 use Rattle.codex_top.specs.Limits.{most_made}
-use Rattle.codex_top.specs.Words.{Asks, eval_by, evaluates, compile, compiles, run_for, runs, asm, assembles}
+use Rattle.codex_top.specs.Words.{Asks, eval_by, evaluates, compile, compiles, run_for, runs, asm, assembles, debug, debugs}
 use Rattle.codex_top.proofs.words.job_of_three.Goals as goal
 
 pub returns-then-eq : goal.returns-then-eq
@@ -28,3 +28,9 @@ returns-then-eq-4 c =
     let is : c.args.command.now ≡ codes "asm" = search rules in
     subst (λ word. Asks (word ∷ c.args.first.now ∷ c.args.second.now ∷ []) (assembles c.args.first.now c.args.second.now)) (sym is)
     (asm c.args.first.now c.args.second.now)
+
+pub returns-then-eq-5 : goal.returns-then-eq-5
+returns-then-eq-5 c =
+    let is : c.args.command.now ≡ codes "debug" = search rules in
+    subst (λ word. Asks (word ∷ c.args.first.now ∷ c.args.second.now ∷ []) (debugs c.args.first.now c.args.second.now)) (sym is)
+    (debug c.args.first.now c.args.second.now)

@@ -128,7 +128,7 @@ const USES_ID_ALONE: &[&str] = &[
 ];
 
 // a stuck box beside a module that uses itself for ever
-const ENDLESS: &[&str] = &[
+pub(super) const ENDLESS: &[&str] = &[
     ",..........................,",
     ":main                      :",
     ": *============*  *=======*:",
@@ -147,7 +147,7 @@ const ENDLESS: &[&str] = &[
 ];
 
 // the sum of two and three
-const ADDITION: &[&str] = &[
+pub(super) const ADDITION: &[&str] = &[
     ",......................................,",
     ":main                                  :",
     ": *========================*           :",
@@ -246,7 +246,7 @@ const DEEP_CALLERS: &[&str] = &[
     "'............................'",
 ];
 
-const SUM: &str = "Inr Inr Inr Inr Inr Inl ()\n";
+pub(super) const SUM: &str = "Inr Inr Inr Inr Inr Inl ()\n";
 
 const TWO_CALLERS_TEXT: &str = "stuck: b: no result\n  in a box 1\n  in main box 1\n";
 
@@ -254,7 +254,7 @@ const DEEP_CALLERS_TEXT: &str =
     "stuck: down: no result\n  in down box 2\n  in down box 2\n  in main box 2\n";
 
 // the bytes of lines, each of which LF ends
-fn bytes_of_lines(alloc: Global, parts: &[&[&str]]) -> Result<Vec<u8>, Fail> {
+pub(super) fn bytes_of_lines(alloc: Global, parts: &[&[&str]]) -> Result<Vec<u8>, Fail> {
     let mut bytes = Vec::new(alloc);
     for part in parts {
         for line in *part {
@@ -579,4 +579,53 @@ fn many_modules(rt: HostRuntime) -> Result<(), Fail> {
             written: None,
         },
     )
+}
+
+// commands on grids of which a call of the shelf or the output fails
+#[test]
+fn failures_on_grids(rt: HostRuntime) -> Result<(), Fail> {
+    let alloc = rt.alloc();
+    let file = bytes_of_lines(alloc, &[ADDITION])?;
+    let compile: &[&str] = &["compile", "f", "o"];
+    let trace: &[&str] = &["trace", "f", "first", "5"];
+    let rows: &[(&[&str], Fails, &str, Status)] = &[
+        (CHECK, Fails::Shelf(0, None), "read fault\n", Status::ReadFault),
+        (CHECK, Fails::Out(0), "write fault\n", Status::WriteFault),
+        (EVAL, Fails::Shelf(0, None), "read fault\n", Status::ReadFault),
+        (EVAL, Fails::Out(0), "write fault\n", Status::WriteFault),
+        (trace, Fails::Shelf(0, None), "read fault\n", Status::ReadFault),
+        (trace, Fails::Out(0), "write fault\n", Status::WriteFault),
+        (compile, Fails::Shelf(0, None), "read fault\n", Status::ReadFault),
+        (compile, Fails::Shelf(1, None), "write fault\n", Status::WriteFault),
+    ];
+    for (words, fails, err, status) in rows {
+        let row = Row {
+            words: *words,
+            file: &file,
+            input: b"",
+            fails: *fails,
+            out: b"",
+            err: *err,
+            status: *status,
+            written: None,
+        };
+        check(&rt, &row)?;
+    }
+    let mut shelf = MemShelf::new(alloc, Vec::new(alloc));
+    shelf.place("f", file.as_slice().to_vec(alloc)?)?;
+    command(&rt, &mut shelf, compile, "", "", Status::Done)?;
+    let Some(scroll) = shelf.file("o") else {
+        return Ok(());
+    };
+    let row = Row {
+        words: compile,
+        file: &file,
+        input: b"",
+        fails: Fails::Shelf(1, Some(5)),
+        out: b"",
+        err: "write fault\n",
+        status: Status::WriteFault,
+        written: scroll.get(..5),
+    };
+    check(&rt, &row)
 }

@@ -1,0 +1,12 @@
+pub mod Spaces
+pub mod Naming
+pub mod Taking
+pub mod Spacing
+pub mod Going
+pub mod Placing
+pub mod Pointed
+pub mod Answering
+pub mod Obeying
+pub mod Toggles
+pub mod Watching
+pub mod Debugged
