@@ -100,13 +100,15 @@ fn watched<R: Abort + AllocGlobal>(rt: &R, linked: &Linked, cycles: u64) -> Resu
     })
 }
 
-// 2 + 3 in five instances: its main, four additions, and the printer at the end
+// 2 + 3 in four instances, and the printer at the end. The counts are those of "Two scrolls, counted by hand" in
+// docs/COMPILED.md.
 #[test]
 fn loads_of_an_addition(rt: HostRuntime) -> Result<(), Fail> {
     let program = program_of(rt.alloc(), ADDITION)?;
     assert_eq!(rt; weight(&program), 94);
     let linked = compile(rt.alloc(), &program)?;
     assert!(rt; linked.words.len() <= 7_584);
+    assert_eq!(rt; linked.words.len(), 1_269);
     let course = watched(&rt, &linked, 36_765_696)?;
     let want = [
         (Some(0), true),
@@ -122,6 +124,8 @@ fn loads_of_an_addition(rt: HostRuntime) -> Result<(), Fail> {
     assert_eq!(rt; course.out.bytes(), SUM.as_bytes());
     let (arrays, words) = course.machine.live();
     assert!(rt; arrays <= 5_240 && words <= 167_680);
+    assert_eq!(rt; (arrays, words), (34, 2_100));
+    assert_eq!(rt; course.machine.cycles(), 12_338);
     Ok(())
 }
 
