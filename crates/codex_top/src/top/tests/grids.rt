@@ -265,6 +265,25 @@ pub(super) fn bytes_of_lines(alloc: Global, parts: &[&[&str]]) -> Result<Vec<u8>
     Ok(bytes)
 }
 
+// a box that is stuck at once beside one that goes on for ever
+const STUCK_AND_ENDLESS: &[&str] = &[
+    ",............,",
+    ":main        :",
+    ": *========* :",
+    ": !split ()! :",
+    ": *========* :",
+    ": *========* :",
+    ": !use loop!--",
+    ": *========* :",
+    "'............'",
+    ",............,",
+    ":loop        :",
+    ": *========* :",
+    ": !use loop!--",
+    ": *========* :",
+    "'............'",
+];
+
 /// A command on a grid, which stands in the file `f`, and what it writes.
 #[derive(Drop)]
 struct GridRow<'a> {
@@ -505,6 +524,13 @@ fn scrolls(rt: HostRuntime) -> Result<(), Fail> {
             run: &["run", "o", "3000"],
             out: "",
             err: "budget 3000 cycles\n",
+            status: Status::Budget,
+        },
+        ScrollRow {
+            grid: &[STUCK_AND_ENDLESS],
+            run: &["run", "o", "30000"],
+            out: "",
+            err: "budget 30000 cycles\n",
             status: Status::Budget,
         },
         printed(&[ADDITION], SUM),
