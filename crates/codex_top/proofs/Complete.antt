@@ -53,7 +53,7 @@ use Rattle.codex_top.proofs.Headlines.{run_of, one_content, one_reading_of, one_
 use Rattle.codex_top.proofs.ProgramLemmas.{program_fits}
 
 -- a file that is there is readable where no read failed
-readable : (o : Outside) (now : Shelved) (file text : List ℕ) → Tells o file text → (Rose o.shelf.read_faults now.read_faults → ⊥) → IsUnreadable file o.shelf now → ⊥
+pub readable : (o : Outside) (now : Shelved) (file text : List ℕ) → Tells o file text → (Rose o.shelf.read_faults now.read_faults → ⊥) → IsUnreadable file o.shelf now → ⊥
 readable o now file text tells none cause = elim cause [
   | inl rose ↦ none rose
   | inr lacks ↦
