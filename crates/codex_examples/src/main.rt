@@ -20,6 +20,7 @@ const GRIDS: [(&str, Status); 4] = [
 
 /// The text that meets a fault, and the commands of a session that finds it.
 const FAULTY: &str = "lost.s";
+
 const COMMANDS: &str = "lost.commands";
 
 /// The file that each scroll is written into.
@@ -48,14 +49,7 @@ fn command_on<I: Source>(
     let mut shelf = RealShelf::new(rt);
     let mut out = RealOut::new(rt.stdout());
     let mut err = RealOut::new(rt.stderr());
-    Ok(codex(
-        rt.alloc(),
-        &list,
-        &mut shelf,
-        input,
-        &mut out,
-        &mut err,
-    ))
+    Ok(codex(rt.alloc(), &list, &mut shelf, input, &mut out, &mut err))
 }
 
 /// Does what the words ask for, or answers the status where it is another than this.
@@ -95,11 +89,7 @@ fn run_all(rt: &HostRuntime) -> Result<(), Status> {
         expect(rt, &["compile", grid, SCROLL], Status::Done)?;
         expect(rt, &["run", SCROLL], Status::Done)?;
     }
-    expect(
-        rt,
-        &["trace", "endless.grid", "first", "3"],
-        Status::Budget,
-    )?;
+    expect(rt, &["trace", "endless.grid", "first", "3"], Status::Budget)?;
     expect(rt, &["asm", FAULTY, SCROLL], Status::Done)?;
     expect(rt, &["run", SCROLL], Status::MachineFault)?;
     session(rt)

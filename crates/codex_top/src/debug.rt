@@ -79,14 +79,7 @@ fn sit<I: Source, O: Sink>(
 {
     let mut machine = start(alloc, words)?;
     let mut input = SureSource::new(bytes);
-    let end = um_debug::debug(
-        alloc,
-        &mut machine,
-        commands,
-        &mut input,
-        out,
-        MOST_LINES,
-    );
+    let end = um_debug::debug(alloc, &mut machine, commands, &mut input, out, MOST_LINES);
     end_of(end)
 }
 

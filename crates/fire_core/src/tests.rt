@@ -112,22 +112,47 @@ fn is_unit(values: &ValueStore, trails: &TrailStore, outcome: Option<Outcome>) -
     }
 }
 
+/// Makes these events, each of which has to be the first that is ready.
+fn make_all(alloc: Global, core: &mut Core, program: &Program, events: &[Event]) -> Result<(), Fail>
+    requires { IsCoreOf program.now core.old }
+    ensures { IsCoreOf program.now core.new }
+{
+    for event in events {
+        makes(alloc, core, program, *event)?;
+    }
+    Ok(())
+}
+
+/// Whether the events of two instances come to `()`.
+fn comes_to_unit(alloc: Global, program: &Program) -> Result<bool, Fail> {
+    let mut core = Core::start(alloc, program)?;
+    let events = [
+        Event::Fire(0, 0),
+        Event::Fire(0, 1),
+        Event::Fire(1, 0),
+        Event::End(1),
+        Event::End(0),
+    ];
+    make_all(alloc, &mut core, program, &events)?;
+    let is_over = core.ready_len(program) == 0 && core.instances() == 2;
+    Ok(is_over && is_unit(core.values(), core.trails(), core.outcome()))
+}
+
+/// Whether the plain evaluator gives `()`, by three firings of two instances.
+fn means_unit(alloc: Global, program: &Program) -> Result<bool, Fail> {
+    let Some(meant) = mean(alloc, program, 2)? else {
+        return Ok(false);
+    };
+    let is_counted = meant.firings == 3 && meant.instances == 2;
+    Ok(is_counted && is_unit(&meant.values, &meant.trails, Some(meant.outcome)))
+}
+
 #[test]
-fn an_instance_starts_and_ends(rt: HostRuntime) -> Result<(), Fail> {
+fn events_and_meaning_agree(rt: HostRuntime) -> Result<(), Fail> {
     let alloc = rt.alloc();
     let program = program_of(alloc, pass(alloc)?, main_of_pass(alloc)?)?;
-    let mut core = Core::start(alloc, &program)?;
-    makes(alloc, &mut core, &program, Event::Fire(0, 0))?;
-    makes(alloc, &mut core, &program, Event::Fire(0, 1))?;
-    makes(alloc, &mut core, &program, Event::Fire(1, 0))?;
-    makes(alloc, &mut core, &program, Event::End(1))?;
-    makes(alloc, &mut core, &program, Event::End(0))?;
-    assert_eq!(rt; core.ready_len(&program), 0);
-    assert_eq!(rt; core.instances(), 2);
-    assert!(rt; is_unit(core.values(), core.trails(), core.outcome()));
-    let meant = mean(alloc, &program, 2)?.ok_or("a meaning")?;
-    assert_eq!(rt; (meant.firings, meant.instances), (3, 2));
-    assert!(rt; is_unit(&meant.values, &meant.trails, Some(meant.outcome)));
+    assert!(rt; comes_to_unit(alloc, &program)?);
+    assert!(rt; means_unit(alloc, &program)?);
     assert!(rt; mean(alloc, &program, 1)?.is_none());
     Ok(())
 }

@@ -615,14 +615,39 @@ fn failures_on_grids(rt: HostRuntime) -> Result<(), Fail> {
     let compile: &[&str] = &["compile", "f", "o"];
     let trace: &[&str] = &["trace", "f", "first", "5"];
     let rows: &[(&[&str], Fails, &str, Status)] = &[
-        (CHECK, Fails::Shelf(0, None), "read fault\n", Status::ReadFault),
+        (
+            CHECK,
+            Fails::Shelf(0, None),
+            "read fault\n",
+            Status::ReadFault,
+        ),
         (CHECK, Fails::Out(0), "write fault\n", Status::WriteFault),
-        (EVAL, Fails::Shelf(0, None), "read fault\n", Status::ReadFault),
+        (
+            EVAL,
+            Fails::Shelf(0, None),
+            "read fault\n",
+            Status::ReadFault,
+        ),
         (EVAL, Fails::Out(0), "write fault\n", Status::WriteFault),
-        (trace, Fails::Shelf(0, None), "read fault\n", Status::ReadFault),
+        (
+            trace,
+            Fails::Shelf(0, None),
+            "read fault\n",
+            Status::ReadFault,
+        ),
         (trace, Fails::Out(0), "write fault\n", Status::WriteFault),
-        (compile, Fails::Shelf(0, None), "read fault\n", Status::ReadFault),
-        (compile, Fails::Shelf(1, None), "write fault\n", Status::WriteFault),
+        (
+            compile,
+            Fails::Shelf(0, None),
+            "read fault\n",
+            Status::ReadFault,
+        ),
+        (
+            compile,
+            Fails::Shelf(1, None),
+            "write fault\n",
+            Status::WriteFault,
+        ),
     ];
     for (words, fails, err, status) in rows {
         let row = Row {

@@ -1,0 +1,6 @@
+-- It is a core of the program after each event.
+use Rattle.fire_core.specs.Cores.{IsCoreOf}
+use Rattle.fire_core.proofs.tests.make_all.Given as goal
+
+abbrev pub invariant-loop-event : goal.invariant-loop-event
+invariant-loop-event l = IsCoreOf l.program l.core
