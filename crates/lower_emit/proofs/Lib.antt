@@ -8,6 +8,7 @@ pub mod Turns
 pub mod Push
 pub mod Placed
 pub mod Lengths
+pub mod Growing
 pub mod Growth
 pub mod Builds
 pub mod Boxes

@@ -1,5 +1,6 @@
 pub mod Stands
 pub mod Entered
+pub mod Growing
 pub mod KnownOutcomes
 pub mod Surroundings
 pub mod BlocksAlone

@@ -5,6 +5,7 @@ mod block;
 mod bodies;
 mod code;
 mod ends;
+pub mod laws;
 mod owner;
 mod parts;
 mod places;
