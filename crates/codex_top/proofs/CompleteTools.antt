@@ -89,8 +89,8 @@ module _ (o n : Outside) (unfailed : IsUnfailed o n) where
       dis_done : (end : End) → ListingEnds file o.shelf n.shelf o.streams.output n.streams.output end → WritesOrWants (Ok Done) end (listing words) o n
       dis_done _ (lists.unread l read same) = inr (ap Err (no_scroll l read))
       dis_done _ (lists.no_memory same) = inr refl
-      dis_done _ (lists.listed ws r read sent) =
-          sent_done (listing words) r (subst (λ xs. IsSent (listing xs) o.streams.output n.streams.output r) (same_read ws read) sent)
+      dis_done _ (lists.listed ws r read put) =
+          sent_done (listing words) r (subst (λ xs. IsSent (listing xs) o.streams.output n.streams.output r) (same_read ws read) put)
 
     module _ (input bytes commands : List ℕ) (there : Tells o input bytes) (short : length bytes ≤ most_input_bytes)
         (told : o.streams.input.bytes ≡ Some commands) (in_time : EndsInTime commands) where

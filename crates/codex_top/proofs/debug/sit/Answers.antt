@@ -1,4 +1,5 @@
-use Rattle.std.proofs.Common.{refl, arith}
+use Rattle.std.proofs.Common.{refl, ap, Some, arith}
+use Rattle.umix_base.specs.contracts.sure_source.SureSourceSource.TheImpl as sure
 use Rattle.std.specs.Prelude.{Err}
 use Rattle.std.proofs.lemmas.Result.{err_from_is_err_and}
 use Rattle.codex_top.specs.DebugCommand.{no_memory, sat}
@@ -12,6 +13,8 @@ returns-in_err-machine-clause-ends g c =
 
 pub returns-clause-ends : goal.returns-clause-ends
 returns-clause-ends g c =
-    rw c.end_of.ensures
-    (sat c.debug-end.result (sat_from g.I.Source _ g.O.Sink c.args.words.items c.args.bytes.items _ c.in_ok-machine.machine _ _ _ _ _ _ _ c.debug-end.result
-    c.in_ok-machine.ensures.machine refl refl (λ rose. omega (arith, rose)) c.debug-end.ensures.session))
+    let sits = sat_from g.I.Source sure.ghosts g.O.Sink c.args.words.items c.args.bytes.items c.debug-end.new.input c.in_ok-machine.machine
+        c.debug-end.new.machine c.args.commands.now c.debug-end.new.commands c.new-input.result c.debug-end.new.input c.args.out.now
+        c.debug-end.new.out c.debug-end.result c.in_ok-machine.ensures.machine (ap Some c.new-input.ensures) refl (λ rose. omega (arith, rose))
+        c.debug-end.ensures.session in
+    rw c.end_of.ensures (sat c.debug-end.result sits)
