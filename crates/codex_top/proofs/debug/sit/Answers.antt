@@ -14,7 +14,7 @@ returns-in_err-machine-clause-ends g c =
 pub returns-clause-ends : goal.returns-clause-ends
 returns-clause-ends g c =
     let sits = sat_from g.I.Source sure.ghosts g.O.Sink c.args.words.items c.args.bytes.items c.debug-end.new.input c.in_ok-machine.machine
-        c.debug-end.new.machine c.args.commands.now c.debug-end.new.commands c.new-input.result c.debug-end.new.input c.args.out.now
-        c.debug-end.new.out c.debug-end.result c.in_ok-machine.ensures.machine (ap Some c.new-input.ensures) refl (λ rose. omega (arith, rose))
-        c.debug-end.ensures.session in
+    c.debug-end.new.machine c.args.commands.now c.debug-end.new.commands c.new-input.result c.debug-end.new.input c.args.out.now
+    c.debug-end.new.out c.debug-end.result c.in_ok-machine.ensures.machine (ap Some c.new-input.ensures) refl (λ rose. omega (arith, rose))
+    c.debug-end.ensures.session in
     rw c.end_of.ensures (sat c.debug-end.result sits)
