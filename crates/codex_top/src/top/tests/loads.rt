@@ -28,8 +28,8 @@ struct Course {
     out: MemSink,
 }
 
-fn program_of(alloc: Global, grid: &[&str]) -> Result<Program, Fail> {
-    let bytes = bytes_of_lines(alloc, &[grid])?;
+fn program_of(alloc: Global, grid: &[&[&str]]) -> Result<Program, Fail> {
+    let bytes = bytes_of_lines(alloc, grid)?;
     match check(alloc, &bytes) {
         Ok(program) => Ok(program),
         Err(_) => Err(Fail::from(Memory)),
@@ -104,7 +104,7 @@ fn watched<R: Abort + AllocGlobal>(rt: &R, linked: &Linked, cycles: u64) -> Resu
 // docs/COMPILED.md.
 #[test]
 fn loads_of_an_addition(rt: HostRuntime) -> Result<(), Fail> {
-    let program = program_of(rt.alloc(), ADDITION)?;
+    let program = program_of(rt.alloc(), &[ADDITION])?;
     assert_eq!(rt; weight(&program), 94);
     let linked = compile(rt.alloc(), &program)?;
     assert!(rt; linked.words.len() <= 7_584);
@@ -131,7 +131,7 @@ fn loads_of_an_addition(rt: HostRuntime) -> Result<(), Fail> {
 
 #[test]
 fn loads_of_an_endless_program(rt: HostRuntime) -> Result<(), Fail> {
-    let program = program_of(rt.alloc(), ENDLESS)?;
+    let program = program_of(rt.alloc(), &[ENDLESS])?;
     assert!(rt; weight(&program) <= 262_144);
     let linked = compile(rt.alloc(), &program)?;
     let course = watched(&rt, &linked, 30_000)?;
