@@ -74,6 +74,10 @@ module _ (input output : Type 0) (sure : input → ⊥) where
   debugs_surely L turns bytes rest s commands _ _ _ (debugging.fails lines line last t j u end passes few is other obeys fails) =
       debugging.fails lines line last t j u end passes few is other obeys (fails_surely L line t j u end fails)
 
+-- a count that is always 0 never rose
+pub no_rise : Rose 0 0 → ⊥
+no_rise rose = omega (arith, rose)
+
 -- a session that began with the machine of these words, on an input that has these bytes and never fails
 pub sat_from : {C I O : Type 0} (commands : source.Ghosts C) (inputs : source.Ghosts I) (sinks : sink.Ghosts O) (words bytes left : List ℕ)
     (m new : MachineView) (c0 c1 : C) (i0 i1 : I) (o0 o1 : O) (end : DebugEnd) → m ≡ machine_of words limits →
