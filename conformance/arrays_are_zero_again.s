@@ -1,0 +1,54 @@
+; an array as large as one that was filled and abandoned is all 0 too
+        set r5, 1000
+        alloc r2, r5
+        nand r7, r6, r6
+fill:   add r5, r5, r7
+        amend r2, r5, r7
+        set r1, filled
+        set r4, fill
+        cmov r1, r4, r5
+        load r6, r1
+filled: abandon r2
+        set r5, 1000
+        alloc r2, r5
+add_up: add r5, r5, r7
+        index r3, r2, r5
+        nand r3, r3, r3         ; ones, where the word is 0
+        nand r0, r0, r0
+        nand r0, r0, r3         ; r0 takes over each bit of the word
+        set r1, summed
+        set r4, add_up
+        cmov r1, r4, r5
+        load r6, r1
+summed: add r0, r0, r6
+        set r7, on1
+        set r1, hex
+        load r6, r1             ; writes r0
+on1:    halt
+; writes r0 as eight hexadecimal digits and LF, and goes on at the place in r7; r6 is 0
+hex:    set r1, 0x1000000
+        set r2, 16
+        mul r1, r1, r2          ; 2^28
+digit:  div r2, r0, r1
+        mul r3, r2, r1
+        nand r3, r3, r3
+        add r0, r0, r3
+        set r3, 1
+        add r0, r0, r3          ; the remainder
+        set r3, 10
+        div r3, r2, r3
+        set r4, 39              ; from ten on the digits are letters
+        mul r3, r3, r4
+        add r2, r2, r3
+        set r3, 48
+        add r2, r2, r3
+        out r2
+        set r2, 16
+        div r1, r1, r2
+        set r3, line
+        set r4, digit
+        cmov r3, r4, r1
+        load r6, r3
+line:   set r2, 10
+        out r2
+        load r6, r7

@@ -1,0 +1,74 @@
+; quotients are those of numbers without a sign, rounded down
+        nand r5, r6, r6         ; 2^32 - 1
+        set r1, 2
+        div r0, r5, r1
+        set r7, on1
+        set r1, hex
+        load r6, r1             ; writes r0
+on1:    nand r1, r6, r6
+        div r0, r5, r1
+        set r7, on2
+        set r1, hex
+        load r6, r1             ; writes r0
+on2:    set r1, 1
+        div r0, r5, r1
+        set r7, on3
+        set r1, hex
+        load r6, r1             ; writes r0
+on3:    set r1, 0x1000000
+        set r2, 128
+        mul r5, r1, r2          ; 2^31
+        set r1, 3
+        div r0, r5, r1
+        set r7, on4
+        set r1, hex
+        load r6, r1             ; writes r0
+on4:    nand r1, r6, r6
+        div r0, r5, r1
+        set r7, on5
+        set r1, hex
+        load r6, r1             ; writes r0
+on5:    nand r1, r6, r6
+        div r0, r1, r5
+        set r7, on6
+        set r1, hex
+        load r6, r1             ; writes r0
+on6:    set r1, 7
+        set r2, 8
+        div r0, r1, r2
+        set r7, on7
+        set r1, hex
+        load r6, r1             ; writes r0
+on7:    set r2, 8
+        div r0, r6, r2
+        set r7, on8
+        set r1, hex
+        load r6, r1             ; writes r0
+on8:    halt
+; writes r0 as eight hexadecimal digits and LF, and goes on at the place in r7; r6 is 0
+hex:    set r1, 0x1000000
+        set r2, 16
+        mul r1, r1, r2          ; 2^28
+digit:  div r2, r0, r1
+        mul r3, r2, r1
+        nand r3, r3, r3
+        add r0, r0, r3
+        set r3, 1
+        add r0, r0, r3          ; the remainder
+        set r3, 10
+        div r3, r2, r3
+        set r4, 39              ; from ten on the digits are letters
+        mul r3, r3, r4
+        add r2, r2, r3
+        set r3, 48
+        add r2, r2, r3
+        out r2
+        set r2, 16
+        div r1, r1, r2
+        set r3, line
+        set r4, digit
+        cmov r3, r4, r1
+        load r6, r3
+line:   set r2, 10
+        out r2
+        load r6, r7

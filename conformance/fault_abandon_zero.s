@@ -1,0 +1,3 @@
+; an Abandonment of array 0
+        abandon r6
+        halt

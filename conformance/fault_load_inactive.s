@@ -1,0 +1,3 @@
+; a Load of an array that never was
+        set r1, 1
+        load r1, r6

@@ -1,0 +1,2 @@
+; there is no operator 15
+        .hex ffffffff

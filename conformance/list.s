@@ -1,0 +1,66 @@
+; a list of 1,000 cells that name each other by identifier, turned round in place
+        set r7, 1000
+        nand r5, r6, r6
+push:   set r1, 2
+        alloc r2, r1
+        amend r2, r6, r7        ; the number
+        set r1, 1
+        amend r2, r1, r4        ; the rest
+        add r4, r2, r6
+        add r7, r7, r5
+        set r1, pushed
+        set r3, push
+        cmov r1, r3, r7
+        load r6, r1
+pushed: set r7, 0               ; the list turned round
+turn:   set r1, 1
+        index r2, r4, r1
+        amend r4, r1, r7
+        add r7, r4, r6
+        add r4, r2, r6
+        set r1, turned
+        set r3, turn
+        cmov r1, r3, r4
+        load r6, r1
+turned: set r1, 3               ; a sum in which the order counts
+        mul r0, r0, r1
+        index r2, r7, r6
+        add r0, r0, r2
+        set r1, 1
+        index r7, r7, r1
+        set r1, ended
+        set r3, turned
+        cmov r1, r3, r7
+        load r6, r1
+ended:  add r0, r0, r6
+        set r7, on1
+        set r1, hex
+        load r6, r1             ; writes r0
+on1:    halt
+; writes r0 as eight hexadecimal digits and LF, and goes on at the place in r7; r6 is 0
+hex:    set r1, 0x1000000
+        set r2, 16
+        mul r1, r1, r2          ; 2^28
+digit:  div r2, r0, r1
+        mul r3, r2, r1
+        nand r3, r3, r3
+        add r0, r0, r3
+        set r3, 1
+        add r0, r0, r3          ; the remainder
+        set r3, 10
+        div r3, r2, r3
+        set r4, 39              ; from ten on the digits are letters
+        mul r3, r3, r4
+        add r2, r2, r3
+        set r3, 48
+        add r2, r2, r3
+        out r2
+        set r2, 16
+        div r1, r1, r2
+        set r3, line
+        set r4, digit
+        cmov r3, r4, r1
+        load r6, r3
+line:   set r2, 10
+        out r2
+        load r6, r7

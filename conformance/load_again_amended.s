@@ -1,0 +1,32 @@
+; a Load after an Amendment of the loaded array takes what was amended
+        set r1, body.len        ; how many words are left to copy
+        alloc r2, r1            ; the array
+        set r3, body            ; the place of the next word
+        set r5, 1
+copy:   index r0, r6, r3        ; a word of this scroll
+        amend r2, r4, r0
+        add r3, r3, r5
+        add r4, r4, r5
+        nand r0, r6, r6
+        add r1, r1, r0
+        set r0, copied
+        set r7, copy
+        cmov r0, r7, r1
+        load r6, r0
+copied: set r4, 0
+        load r2, r4
+        halt
+        .array body
+spot:   set r0, 97
+        out r0
+        set r1, spot
+        set r3, other
+        index r3, r6, r3
+        amend r2, r1, r3        ; its first word is a jump now
+        set r7, last
+        load r2, r4
+other:  load r6, r7
+last:   set r0, 98
+        out r0
+        halt
+        .end
