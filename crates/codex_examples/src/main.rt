@@ -1,104 +1,80 @@
-//! Assembles and runs each example text, evaluates, compiles and runs each example grid, and holds the example
-//! session.
+//! Runs the command lines of the file `commands`, and writes each before what it writes, as one who types them
+//! would see it.
 #![tactic(auto)]
 
 use codex_top::{Status, codex};
-use std::alloc::{AllocError, Global};
 use std::process::ExitCode;
-use umix_base::{RealIn, RealOut, RealShelf, Shelf, Source, SureSource};
+use std::{fs, io};
+use umix_base::{RealIn, RealOut, RealShelf, Source, SureSource};
 
-/// The texts, which lie where the program runs.
-const TEXTS: [&str; 4] = ["hello.s", "count.s", "other.s", "echo.s"];
+/// The file of the command lines, which lies where the program runs.
+const COMMANDS: &str = "commands";
 
-/// The grids that have an outcome, which lie there too, and how their evaluation ends.
-const GRIDS: [(&str, Status); 4] = [
-    ("number.grid", Status::Done),
-    ("addition.grid", Status::Done),
-    ("reverse.grid", Status::Done),
-    ("stuck.grid", Status::Stuck),
-];
+/// Begins each command line.
+const PROMPT: &str = "$";
 
-/// The text that meets a fault, and the commands of a session that finds it.
-const FAULTY: &str = "lost.s";
+/// Stands before the name of the file from which a command line takes its input. One without it takes the
+/// program's.
+const FROM: &str = "<";
 
-const COMMANDS: &str = "lost.commands";
-
-/// The file that each scroll is written into.
-const SCROLL: &str = "example.um";
-
-fn words(alloc: Global, words: &[&str]) -> Result<Vec<String>, AllocError> {
-    let mut list = Vec::new(alloc);
-    for word in words {
-        list.push(String::from_str(alloc, word)?)?;
-    }
-    Ok(list)
-}
-
-/// Does what the words ask for, over the system's files and streams.
-fn command(rt: &HostRuntime, list: &[&str]) -> Result<Status, AllocError> {
-    command_on(rt, list, &mut RealIn::new(rt.stdin()))
-}
-
-/// The same on this input.
-fn command_on<I: Source>(
-    rt: &HostRuntime,
-    list: &[&str],
-    input: &mut I,
-) -> Result<Status, AllocError> {
-    let list = words(rt.alloc(), list)?;
+/// Does what the words ask for on this input, over the system's files and streams; the line of the status
+/// goes to the output too.
+fn command_on<I: Source>(rt: &HostRuntime, words: &Vec<String>, input: &mut I) -> Status {
     let mut shelf = RealShelf::new(rt);
     let mut out = RealOut::new(rt.stdout());
-    let mut err = RealOut::new(rt.stderr());
-    Ok(codex(rt.alloc(), &list, &mut shelf, input, &mut out, &mut err))
+    let mut err = RealOut::new(rt.stdout());
+    codex(rt.alloc(), words, &mut shelf, input, &mut out, &mut err)
 }
 
-/// Does what the words ask for, or answers the status where it is another than this.
-fn expect(rt: &HostRuntime, list: &[&str], wanted: Status) -> Result<(), Status> {
-    match command(rt, list) {
-        Ok(status) if status == wanted => Ok(()),
-        Ok(status) => Err(status),
-        Err(_) => Err(Status::Memory),
+/// Does what a command line asks for, and writes the status where the work wasn't done.
+fn perform(rt: &HostRuntime, words: &Vec<String>, file: &Option<String>) -> io::Result<()> {
+    let mut line = String::from_str(rt.alloc(), PROMPT)?;
+    for word in words.iter() {
+        line.push(' ')?;
+        line.push_str(word.as_str())?;
     }
-}
-
-/// Holds the session of the file of commands on a scroll, whose input is the text of it.
-fn session(rt: &HostRuntime) -> Result<(), Status> {
-    let mut shelf = RealShelf::new(rt);
-    let Ok(commands) = shelf.read(rt.alloc(), COMMANDS, 1000) else {
-        return Err(Status::ReadFault);
+    println!(rt; "{line}")?;
+    let status = match file {
+        Some(name) => {
+            let bytes = fs::read(rt, name.as_str())?;
+            command_on(rt, words, &mut SureSource::new(bytes))
+        }
+        None => command_on(rt, words, &mut RealIn::new(rt.stdin())),
     };
-    match command_on(
-        rt,
-        &["debug", SCROLL, FAULTY],
-        &mut SureSource::new(commands),
-    ) {
-        Ok(Status::Done) => Ok(()),
-        Ok(status) => Err(status),
-        Err(_) => Err(Status::Memory),
+    if status != Status::Done {
+        let number = status.number();
+        println!(rt; "status {number}")?;
     }
+    Ok(())
 }
 
-fn run_all(rt: &HostRuntime) -> Result<(), Status> {
-    for text in TEXTS {
-        expect(rt, &["asm", text, SCROLL], Status::Done)?;
-        expect(rt, &["run", SCROLL], Status::Done)?;
+/// Performs the command lines one after the other.
+fn perform_all(rt: &HostRuntime) -> io::Result<()> {
+    let text = fs::read_to_string(rt, COMMANDS)?;
+    let mut words = Vec::new(rt.alloc());
+    let mut file = None;
+    let mut is_file = false;
+    for word in text.split_whitespace() {
+        if word == PROMPT {
+            if !words.is_empty() {
+                perform(rt, &words, &file)?;
+            }
+            words = Vec::new(rt.alloc());
+            file = None;
+        } else if is_file {
+            file = Some(String::from_str(rt.alloc(), word)?);
+        } else if word != FROM {
+            words.push(String::from_str(rt.alloc(), word)?)?;
+        }
+        is_file = word == FROM;
     }
-    expect(rt, &["dis", SCROLL], Status::Done)?;
-    for (grid, ended) in GRIDS {
-        expect(rt, &["eval", grid], ended)?;
-        expect(rt, &["compile", grid, SCROLL], Status::Done)?;
-        expect(rt, &["run", SCROLL], Status::Done)?;
-    }
-    expect(rt, &["trace", "endless.grid", "first", "3"], Status::Budget)?;
-    expect(rt, &["asm", FAULTY, SCROLL], Status::Done)?;
-    expect(rt, &["run", SCROLL], Status::MachineFault)?;
-    session(rt)
+    perform(rt, &words, &file)
 }
 
-/// Ends with the number of the first status that isn't the one that was wanted, or with 0.
+/// Ends with 0, or with 1 where the outside or memory failed the program itself.
 fn main(rt: HostRuntime) -> ExitCode {
-    match run_all(&rt) {
-        Ok(()) => ExitCode::from(Status::Done.number()),
-        Err(status) => ExitCode::from(status.number()),
+    match perform_all(&rt) {
+        Ok(()) => ExitCode::SUCCESS,
+        Err(_) => ExitCode::FAILURE,
     }
 }
