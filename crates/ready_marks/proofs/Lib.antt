@@ -1,0 +1,4 @@
+pub mod MarkedReady
+pub mod Noted
+pub mod Quiet
+pub mod Touched
