@@ -39,7 +39,8 @@ module _ (P : Program) (T : Table) (i : ℕ) where
       filter-append (is_ready P T) (fires_below i n) (Fire i n ∷ [])
       ∙ (ap (λ l. l ++ filter (is_ready P T) (Fire i n ∷ [])) (fires-dead dead n) ∙ (rw dead refl))
 
-  alone-count : all_below (length T) (λ h. not (is_inner i (instance_at T h))) ≡ (inner_count i T == 0)
+  -- no inner instance is left just where there are none
+  pub alone-count : all_below (length T) (λ h. not (is_inner i (instance_at T h))) ≡ (inner_count i T == 0)
   alone-count = elim (cases_eq (inner_count i T) 0) [
     | inl none ↦ inner_count-alone i T none ∙ sym (eq-eqb (inner_count i T) 0 none)
     | inr some ↦ elim (cases_Bool (all_below (length T) (λ h. not (is_inner i (instance_at T h))))) [

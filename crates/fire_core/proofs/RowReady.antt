@@ -30,6 +30,10 @@ module _ (P : Program) (T : Table) (i : ℕ) (values : List Value) (trails : Lis
   pub added-row : (old new : List steps.Event) (n : ℕ) → new ≡ old ++ fires_of P (instance_in values trails row) i n → new ≡ old ++ fires_of P (instance_at T i) i n
   added-row old new n e = rw here e
 
+-- a row without an outcome is that of an instance that lives
+pub live-none : (values : List Value) (trails : List Trail) (row : RowForm) (none : Bool) → is_some row.outcome ≡ not none → none ≡ true → is_live (instance_in values trails row) ≡ true
+live-none values trails row none is holds = ap not (is_some-map (outcome_in values trails) row.outcome ∙ (is ∙ ap not holds))
+
 pub box_at-row : (P : Program) (k b : ℕ) (boxes : List BoxRow) (row : BoxRow) → (module_at P k).boxes ≡ map box_of boxes → b < length boxes → row ≡ slice_index_or boxes b row →
     box_at P k b ≡ Some (box_of row)
 box_at-row P k b boxes row same lt is = rw same (slice_get-map box_of boxes b ∙ ap (option_map box_of) (slice_get_read boxes (length boxes) b row refl lt is))

@@ -10,7 +10,7 @@ ghost use Rattle.fire_core.specs.Events.{event_of, events_shown};
 
 use crate::event::Event;
 use crate::instances::Instances;
-use crate::kept::{changed, renew, room};
+use crate::kept::{Kept, room, told_by};
 use crate::ready::add_ready;
 use codex_values::ValueStore;
 use std::alloc::Global;
@@ -18,12 +18,12 @@ use std::marker::Model;
 use two_d::{Outcome, Program, TrailStore};
 use umix_base::Memory;
 
-/// An evaluation at some moment: an instance table, the stores of values and trails, and the ready events,
-/// which are kept from event to event. See "Order of events" in docs/GRID.md.
+/// An evaluation at some moment: an instance table, the stores of values and trails, and marks of what is
+/// ready, which are kept from event to event. See "Order of events" in docs/GRID.md.
 #[derive(Drop)]
 pub struct Core {
     instances: Instances,
-    kept: Vec<Event>,
+    kept: Kept,
 }
 
 impl Model for Core {
@@ -31,14 +31,13 @@ impl Model for Core {
     ghost use Rattle.std.specs.Coded.{codes};
     ghost use Rattle.codex_values.specs.inner.Codes.{coded_value};
     ghost use Rattle.fire_core.specs.Cores.{CoreView};
-    ghost use Rattle.fire_core.specs.Events.{events_shown};
     ghost use Rattle.fire_core.specs.inner.Instances.{core_view};
 
     ghost Value = { CoreView };
 
     ghost coded = { Prim.hlevel (codes, coded_value) };
 
-    ghost view = { λ core. core_view core.instances (events_shown core.kept.items) };
+    ghost view = { λ core. core_view core.instances core.kept };
 
     ghost invariant = { λ core. 0 < length core.instances.table };
 }
@@ -50,10 +49,9 @@ impl Core {
         ensures table { IfOk result (λ core. core.table ≡ steps.start program.now) }
         ensures stores { IfOk result (λ core. (core.nodes ≡ []) × (core.trails ≡ [])) }
     {
+        let _modules = program.modules();
         let instances = Instances::start(alloc, program)?;
-        let mut kept = Vec::new(alloc);
-        let boxes = &program.modules()[program.main()].boxes;
-        add_ready(instances.row(0), boxes, 0, &mut kept)?;
+        let kept = Kept::start(alloc, program, &instances)?;
         Ok(Core { instances, kept })
     }
 
@@ -81,19 +79,20 @@ impl Core {
         self.kept.len()
     }
 
-    /// The ready event at a place of their list. Constant time, and it takes no memory.
+    /// The ready event at a place of their list. Time by the logarithm of the number of instances and one
+    /// 262,144th of the boxes of all that were started, and it takes no memory.
     pub fn ready_at(&self, program: &Program, k: usize) -> Event
         requires core { IsCoreOf program.now self.now }
         requires there { k < length (steps.ready program.now self.now.table) }
         ensures { slice_get (steps.ready program.now self.now.table) k ≡ Some (event_of result) }
     {
         let _modules = program.modules();
-        self.kept[k]
+        self.kept.event(program, &self.instances, k)
     }
 
     /// Makes a ready event. After `Memory` the table is as before. What stood in the stores always still stands
-    /// at its place; they may have grown. Time by the boxes of the modules of the instances that change, and
-    /// by the number of ready events.
+    /// at its place; they may have grown. Beside what the box does, an event looks at three boxes and an end;
+    /// one that starts an instance looks at each of its boxes.
     pub fn step(&mut self, program: &Program, event: Event) -> Result<(), Memory>
         requires core { IsCoreOf program.now self.old }
         requires ready { is_ready program.now self.old.table (event_of event) ≡ true }
@@ -105,12 +104,13 @@ impl Core {
         ensures trails { KeepsTrails self.old.trails self.new.trails }
     {
         let _modules = program.modules();
-        let mut events = Vec::new(*self.kept.allocator());
-        events.reserve(self.kept.len() + room(&self.instances, program, event))?;
-        let changed = changed(&self.instances, event);
+        let before = self.instances.len();
+        let told = told_by(&self.instances, event);
+        let boxes = room(program, &self.instances, event);
+        self.kept.reserve(before, boxes)?;
         self.instances.step(program, event)?;
-        renew(&self.instances, program, &self.kept, changed, &mut events);
-        self.kept = events;
+        self.kept
+            .renew(program, &self.instances, event, told, before);
         Ok(())
     }
 

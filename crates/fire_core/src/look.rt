@@ -1,6 +1,6 @@
 //! What is on the wires of an instance.
 
-ghost use Rattle.std.specs.Prelude.{◌≡◌, ℕ, List, Some, is_some};
+ghost use Rattle.std.specs.Prelude.{◌≡◌, ◌&&◌, ℕ, List, Some, is_some};
 ghost use Rattle.std.specs.Option.{option_map};
 ghost use Rattle.codex_values.specs.Value.{Value};
 ghost use Rattle.codex_values.specs.Store.{value_in};
@@ -87,4 +87,13 @@ pub(crate) fn can_fire(row: &Row, bx: &BoxRow, number: usize) -> bool
         → result ≡ steps.can_fire P (instance_in values trails (row_of row.now)) number }
 {
     !has_fired(row, number) && inputs_of(row, bx).is_some()
+}
+
+/// It can, and the instance hasn't ended.
+pub(crate) fn is_box_ready(row: &Row, bx: &BoxRow, number: usize) -> bool
+    ensures { (P : Program) (values : List Value) (trails : List Trail) → box_at P row.now.kind number ≡ Some (box_of bx.now)
+        → result ≡ (steps.is_live (instance_in values trails (row_of row.now))
+        && steps.can_fire P (instance_in values trails (row_of row.now)) number) }
+{
+    row.outcome.is_none() && can_fire(row, bx, number)
 }

@@ -1,7 +1,6 @@
 //! What is ready of one instance.
 
-ghost use Rattle.std.specs.Prelude.{◌≡◌, ◌<◌, ◌≤◌, ◌+◌, ◌^◌, ◌++◌, ℕ, List, Some, map, length, vec_len, IsOk, OnOk};
-ghost use Rattle.std.specs.Vec.{vec_capacity};
+ghost use Rattle.std.specs.Prelude.{◌≡◌, ◌<◌, ◌^◌, ◌++◌, List, Some, map, length, OnOk};
 ghost use Rattle.codex_values.specs.Value.{Value};
 ghost use Rattle.two_d.specs.Programs.{Program, box_of, box_at, module_at};
 ghost use Rattle.two_d.specs.Steps.{Table, instance_at};
@@ -29,9 +28,6 @@ pub(crate) fn add_ready(
         → instance_at T number ≡ instance_in values trails (row_of row.now) → (module_at P row.now.kind).boxes ≡ map box_of boxes.now
         → row.now.inner ≡ inner_count number T
         → OnOk result (events_shown events.new.items ≡ events_shown events.old.items ++ ready_of P T number) }
-    ensures size { vec_len events.new ≤ vec_len events.old + length boxes.now + 1 }
-    ensures capacity { vec_capacity events.old ≤ vec_capacity events.new }
-    ensures succeeds { vec_len events.old + length boxes.now < vec_capacity events.old → IsOk result }
 {
     if row.outcome.is_some() {
         return Ok(());
@@ -59,9 +55,6 @@ fn add_fires(
     ensures added { (P : Program) (values : List Value) (trails : List Trail) → (module_at P row.now.kind).boxes ≡ map box_of boxes.now
         → OnOk result (events_shown events.new.items ≡ events_shown events.old.items
         ++ fires_of P (instance_in values trails (row_of row.now)) number (length boxes.now)) }
-    ensures size { vec_len events.new ≤ vec_len events.old + length boxes.now }
-    ensures capacity { vec_capacity events.old ≤ vec_capacity events.new }
-    ensures succeeds { vec_len events.old + length boxes.now ≤ vec_capacity events.old → IsOk result }
 {
     for bx in 0..boxes.len() {
         add_fire(row, &boxes[bx], number, bx as u32, events)?;
@@ -80,9 +73,6 @@ fn add_fire(
     ensures added { (P : Program) (values : List Value) (trails : List Trail) → box_at P row.now.kind place ≡ Some (box_of bx.now)
         → OnOk result (events_shown events.new.items ≡ events_shown events.old.items
         ++ fire_of P (instance_in values trails (row_of row.now)) number place) }
-    ensures size { vec_len events.new ≤ vec_len events.old + 1 }
-    ensures capacity { vec_capacity events.old ≤ vec_capacity events.new }
-    ensures succeeds { vec_len events.old < vec_capacity events.old → IsOk result }
 {
     if can_fire(row, bx, place as usize) {
         events.push(Event::Fire(number as u64, place))?;

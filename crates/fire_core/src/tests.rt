@@ -1,4 +1,5 @@
-//! A program with a `use`, event by event, and by the plain evaluator.
+//! A program with a `use` whose boxes become ready in another order than they fire, event by event, and by
+//! the plain evaluator.
 
 ghost use Rattle.std.specs.Prelude.{length, IfSome};
 ghost use Rattle.two_d.specs.Texts.{IsPlaceIn};
@@ -29,25 +30,32 @@ fn pass(alloc: Global) -> Result<Module, Fail> {
     })
 }
 
-/// The module `main`, whose first box sends `()` to a use of `pass`.
+/// A box that sends something to its east side.
+fn sends(alloc: Global, exp: Exp, n: Option<Origin>, w: Option<Origin>) -> Result<BoxRow, Fail> {
+    Ok(BoxRow {
+        command: Command::Send(vec![in alloc; (exp, Side::E)]?),
+        n,
+        w,
+    })
+}
+
+/// The module `main`: box 2 sends `()` to box 0, and that to box 1, a use of `pass`. Box 3 stands alone.
 fn main_of_pass(alloc: Global) -> Result<Module, Fail> {
     let name = Name::read(alloc, b"main")?.ok_or("a name")?;
-    let first = BoxRow {
-        command: Command::Send(vec![in alloc; (Exp::Unit, Side::E)]?),
-        n: None,
-        w: None,
-    };
     let used = Name::read(alloc, b"pass")?.ok_or("a name")?;
+    let first = sends(alloc, Exp::W, None, Some(Origin::East(2)))?;
     let second = BoxRow {
         command: Command::Call(used),
         n: None,
         w: Some(Origin::East(0)),
     };
+    let third = sends(alloc, Exp::Unit, None, None)?;
+    let fourth = sends(alloc, Exp::Unit, None, None)?;
     Ok(Module {
         name,
         north: false,
         west: false,
-        boxes: vec![in alloc; first, second]?,
+        boxes: vec![in alloc; first, second, third, fourth]?,
         exits: vec![in alloc; Some(Origin::East(1))]?,
     })
 }
@@ -79,8 +87,14 @@ fn are_kept(core: &Core, program: &Program, events: &[Event]) -> bool
     true
 }
 
-/// Makes the first ready event, which has to be this one. What is kept has to be what is looked for.
-fn makes(alloc: Global, core: &mut Core, program: &Program, event: Event) -> Result<(), Fail>
+/// Makes the ready event at a place, which has to be this one. What is kept has to be what is looked for.
+fn makes(
+    alloc: Global,
+    core: &mut Core,
+    program: &Program,
+    k: usize,
+    event: Event,
+) -> Result<(), Fail>
     requires { IsCoreOf program.now core.old }
     ensures { IsCoreOf program.now core.new }
 {
@@ -91,14 +105,14 @@ fn makes(alloc: Global, core: &mut Core, program: &Program, event: Event) -> Res
     if core.instances() > 9 {
         return Err("few instances".into());
     }
-    if core.ready_len(program) == 0 {
+    if core.ready_len(program) <= k {
         return Err("a ready event".into());
     }
-    let first = core.ready_at(program, 0);
-    if first != event {
-        return Err("the first ready event".into());
+    let next = core.ready_at(program, k);
+    if next != event {
+        return Err("the ready event".into());
     }
-    core.step(program, first)?;
+    core.step(program, next)?;
     Ok(())
 }
 
@@ -112,13 +126,18 @@ fn is_unit(values: &ValueStore, trails: &TrailStore, outcome: Option<Outcome>) -
     }
 }
 
-/// Makes these events, each of which has to be the first that is ready.
-fn make_all(alloc: Global, core: &mut Core, program: &Program, events: &[Event]) -> Result<(), Fail>
+/// Makes these events, each of which has to be the ready one at its place.
+fn make_all(
+    alloc: Global,
+    core: &mut Core,
+    program: &Program,
+    events: &[(usize, Event)],
+) -> Result<(), Fail>
     requires { IsCoreOf program.now core.old }
     ensures { IsCoreOf program.now core.new }
 {
-    for event in events {
-        makes(alloc, core, program, *event)?;
+    for (k, event) in events {
+        makes(alloc, core, program, *k, *event)?;
     }
     Ok(())
 }
@@ -127,23 +146,25 @@ fn make_all(alloc: Global, core: &mut Core, program: &Program, events: &[Event])
 fn comes_to_unit(alloc: Global, program: &Program) -> Result<bool, Fail> {
     let mut core = Core::start(alloc, program)?;
     let events = [
-        Event::Fire(0, 0),
-        Event::Fire(0, 1),
-        Event::Fire(1, 0),
-        Event::End(1),
-        Event::End(0),
+        (0, Event::Fire(0, 2)),
+        (0, Event::Fire(0, 0)),
+        (0, Event::Fire(0, 1)),
+        (1, Event::Fire(1, 0)),
+        (1, Event::End(1)),
+        (0, Event::Fire(0, 3)),
+        (0, Event::End(0)),
     ];
     make_all(alloc, &mut core, program, &events)?;
     let is_over = core.ready_len(program) == 0 && core.instances() == 2;
     Ok(is_over && is_unit(core.values(), core.trails(), core.outcome()))
 }
 
-/// Whether the plain evaluator gives `()`, by three firings of two instances.
+/// Whether the plain evaluator gives `()`, by five firings of two instances.
 fn means_unit(alloc: Global, program: &Program) -> Result<bool, Fail> {
     let Some(meant) = mean(alloc, program, 2)? else {
         return Ok(false);
     };
-    let is_counted = meant.firings == 3 && meant.instances == 2;
+    let is_counted = meant.firings == 5 && meant.instances == 2;
     Ok(is_counted && is_unit(&meant.values, &meant.trails, Some(meant.outcome)))
 }
 

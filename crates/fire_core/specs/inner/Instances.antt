@@ -4,9 +4,10 @@ use Rattle.codex_values.specs.declared.shape.Shape.{Shape}
 use Rattle.codex_values.specs.Store.{values_of, Keeps}
 use Rattle.two_d.specs.declared.trail.Trail.{Trail as TrailNode}
 use Rattle.two_d.specs.Meaning.{sum_below}
-use Rattle.two_d.specs.Steps.{Event, Table, instance_at, is_inner}
+use Rattle.two_d.specs.Steps.{Table, instance_at, is_inner}
 use Rattle.two_d.specs.Trails.{trails_of, KeepsTrails}
 use Rattle.fire_core.specs.Cores.{CoreView}
+use Rattle.fire_core.specs.Kept.{KeptView}
 use Rattle.fire_core.specs.inner.Rows.{RowForm, row_at, table_in, RowsFit}
 
 -- the instance table, and the nodes of the two stores
@@ -40,6 +41,6 @@ pub record KeepsStores (old new : InstancesView) : Type 0 where
   pub values : Keeps old.nodes new.nodes
   pub trails : KeepsTrails old.trails new.trails
 
--- what is seen of a core that has these instances and keeps these events
-abbrev pub core_view : InstancesView → List Event → CoreView
+-- what is seen of a core that has these instances and keeps this
+abbrev pub core_view : InstancesView → KeptView → CoreView
 core_view instances kept = record { table = instances.table; nodes = instances.nodes; trails = instances.trails; kept = kept }

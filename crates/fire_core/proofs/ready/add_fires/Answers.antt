@@ -10,11 +10,11 @@ loop-bx-preserved c = record {
       let lt : c.loop-bx.bx < length c.args.boxes.now = omega arith in
       fires-more P (instance_in values trails (row_of c.args.row.now)) c.args.number c.loop-bx.bx _ _ _ (c.loop-bx.invariant.added P values trails same)
       (c.in_ok-add_fire.ensures.added P values trails (box_at-row P c.args.row.now.kind c.loop-bx.bx c.args.boxes.now c.index-boxes-bx.result same lt c.index-boxes-bx.is));
-  size = omega arith;
-  capacity = omega arith;
 }
 
-pub returns-clause-added : goal.returns-clause-added
-returns-clause-added c = λ P values trails same.
-    let all : c.loop-bx.bx ≡ length c.args.boxes.now = omega arith in
-    fires-whole P (instance_in values trails (row_of c.args.row.now)) c.args.number c.loop-bx.bx (length c.args.boxes.now) _ _ all (c.loop-bx.invariant.added P values trails same)
+pub returns : goal.returns
+returns c = record {
+  added = λ P values trails same.
+      let all : c.loop-bx.bx ≡ length c.args.boxes.now = omega arith in
+      fires-whole P (instance_in values trails (row_of c.args.row.now)) c.args.number c.loop-bx.bx (length c.args.boxes.now) _ _ all (c.loop-bx.invariant.added P values trails same);
+}

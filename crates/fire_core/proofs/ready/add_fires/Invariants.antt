@@ -1,6 +1,5 @@
 -- The firings of the boxes so far are in the list.
-use Rattle.std.specs.Prelude.{◌≡◌, ◌≤◌, ◌+◌, ◌++◌, List, map, vec_len}
-use Rattle.std.specs.Vec.{vec_capacity}
+use Rattle.std.specs.Prelude.{◌≡◌, ◌++◌, List, map}
 use Rattle.codex_values.specs.Value.{Value}
 use Rattle.two_d.specs.Programs.{Program, box_of, module_at}
 use Rattle.two_d.specs.Trails.{Trail}
@@ -13,6 +12,4 @@ abbrev pub invariant-loop-bx : goal.invariant-loop-bx
 invariant-loop-bx l = record {
   added : (P : Program) (values : List Value) (trails : List Trail) → (module_at P l.row.kind).boxes ≡ map box_of l.boxes →
       events_shown l.events.items ≡ events_shown l.initial.events.items ++ fires_of P (instance_in values trails (row_of l.row)) l.number l.bx;
-  size : vec_len l.events ≤ vec_len l.initial.events + l.bx;
-  capacity : vec_capacity l.initial.events ≤ vec_capacity l.events;
 }

@@ -2,5 +2,5 @@
 use Rattle.fire_core.specs.Cores.{IsCoreOf}
 use Rattle.fire_core.proofs.tests.make_all.Given as goal
 
-abbrev pub invariant-loop-event : goal.invariant-loop-event
-invariant-loop-event l = IsCoreOf l.program l.core
+abbrev pub invariant-loop-k : goal.invariant-loop-k
+invariant-loop-k l = IsCoreOf l.program l.core

@@ -3,7 +3,7 @@ use Rattle.std.proofs.Common.{ap, arith}
 use Rattle.std.proofs.lemmas.List.{length-map}
 use Rattle.two_d.specs.Programs.{ModuleForm, box_of, no_module}
 use Rattle.fire_core.proofs.FireLemmas.{module-is}
-use Rattle.fire_core.proofs.kept.boxes_of.Goals as goal
+use Rattle.fire_core.proofs.kept.module_size.Goals as goal
 
 pub returns-clause-small : goal.returns-clause-small
 returns-clause-small c =
