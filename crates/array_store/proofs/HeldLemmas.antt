@@ -18,10 +18,10 @@ use Rattle.array_store.specs.Refusals.{FitsAllocation, words_loaded}
 abbrev pub Fit : List ℕ → Type 0
 Fit words = (at : ℕ) → slice_index words at < 2 ^ 32
 
-abbrev AllFit : Arrays → Type 0
+abbrev pub AllFit : Arrays → Type 0
 AllFit arrays = (id : ℕ) → Fit (array_at arrays id)
 
-fit_none : Fit []
+pub fit_none : Fit []
 fit_none at = omega arith
 
 pub fit-replicate : (n : ℕ) → Fit (replicate n 0)
@@ -39,7 +39,7 @@ fit-set words k word fit small at = elim (cases_eq at k) as (λ _. slice_index (
   | inr ne ↦ let e = get_or-set_other words k at word 0 ne in let f = fit at in omega (arith, e, f)
 ]
 
-fit-insert : (arrays : Arrays) (k : ℕ) (words : List ℕ) → AllFit arrays → Fit words → AllFit (map.insert arrays k words)
+pub fit-insert : (arrays : Arrays) (k : ℕ) (words : List ℕ) → AllFit arrays → Fit words → AllFit (map.insert arrays k words)
 fit-insert arrays k words all fit id = elim (cases_eq id k) as (λ _. Fit (array_at (map.insert arrays k words) id)) [
   | inl same ↦ subst Fit (sym (ap (λ o. unwrap_or o []) (ap (map.get (map.insert arrays k words)) same ∙ get-insert_same arrays k words))) fit
   | inr ne ↦ subst Fit (sym (ap (λ o. unwrap_or o []) (get-insert_other arrays k words id ne))) (all id)
@@ -75,7 +75,7 @@ still_there arrays k words zero = elim (cases_eq 0 k) as (λ _. map.get (map.ins
   | inr ne ↦ there_as _ (array_at arrays 0) (get-insert_other arrays k words 0 ne ∙ zero)
 ]
 
-held_from : (h : StoreView) → HasArray h 0 → IsOrderly h.limits h.identifiers h.arrays → h.limits.arrays ≤ most_live_arrays →
+pub held_from : (h : StoreView) → HasArray h 0 → IsOrderly h.limits h.identifiers h.arrays → h.limits.arrays ≤ most_live_arrays →
     h.limits.words ≤ most_live_words → AllFit h.arrays → IsStore h
 held_from h zero orderly arrays words fit = record {
   zero_there = zero;

@@ -210,3 +210,17 @@ lent_next z words n id old new ne there e =
 
 pub same_length : {X : Type 0} (v w : Vec X) → vec_len v ≡ vec_len w → length v.items ≡ length w.items
 same_length v w e = sym v.ok.0 ∙ e ∙ w.ok.0
+
+-- one more slot without an array
+pub arrays-push_none : (slots : List (Option (Vec ℕ))) → slot_arrays (slots ++ None ∷ []) ≡ slot_arrays slots
+arrays-push_none slots = same_arrays _ _ (λ q.
+    get-slot_arrays (slots ++ None ∷ []) q ∙ elim (cases_eq q (length slots)) as (λ _.
+    words_at (slice_get (slots ++ None ∷ []) q) ≡ map.get (slot_arrays slots) q) [
+      | inl e ↦ ap (λ j. words_at (slice_get (slots ++ None ∷ []) j)) e ∙ ap words_at (get_push_end slots None)
+          ∙ sym (get-slot_past slots q (omega (arith, e)))
+      | inr ne ↦ ap words_at (get_push_other slots None q ne) ∙ sym (get-slot_arrays slots q)
+    ])
+
+pub slot_arrays-none : slot_arrays [] ≡ map.empty
+unfolding slot_arrays
+slot_arrays-none = refl

@@ -1,3 +1,4 @@
 pub mod StoreView
 pub mod Refusals
+pub mod Parts
 pub mod inner

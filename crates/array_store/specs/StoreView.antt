@@ -14,6 +14,10 @@ most_live_arrays = 16_777_216
 abbrev pub most_live_words : ℕ
 most_live_words = 268_435_456
 
+-- the greatest limits that a store may have
+abbrev pub most_limits : Limits
+most_limits = record { arrays = most_live_arrays; words = most_live_words }
+
 -- the arrays by their identifiers, the identifiers that were handed out, and the limits
 pub record StoreView : Type 0 where
   pub arrays : Arrays

@@ -1,13 +1,14 @@
 // Every array stands in a vector of its own: array 0 in `zero`, and each other at the place that its
 // identifier numbers.
-ghost use Rattle.std.specs.Prelude.{Some, ◌≡◌, ℕ, ◌+◌, ◌-◌, ◌^◌, ◌≤◌, ◌<◌, List, length, replicate, slice_set, slice_index, option_copied, vec_len, vec_capacity, All, IfOk, IfErr, OnOk, OnErr};
+ghost use Rattle.std.specs.Prelude.{Some, ◌≡◌, ℕ, ◌+◌, ◌-◌, ◌^◌, ◌≤◌, ◌<◌, List, length, replicate, slice_get, slice_set, slice_index, option_copied, vec_len, vec_capacity, All, IfOk, IfErr, OnOk, OnErr};
 ghost use Rattle.std.specs.Option.{option_map};
 ghost use Rattle.std.specs.FinMap as map;
-ghost use Rattle.um_word.specs.State.{array_at, live_arrays, live_words};
+ghost use Rattle.um_word.specs.State.{array_at, live_arrays, live_words, words_in};
 ghost use Rattle.um_word.specs.Rule.{next_identifier, taken, handed_back};
-ghost use Rattle.array_store.specs.StoreView.{most_live_arrays, most_live_words, IsStore, HasArray, HasWord, new_held};
+ghost use Rattle.array_store.specs.StoreView.{most_live_arrays, most_live_words, most_limits, IsStore, HasArray, HasWord, new_held};
 ghost use Rattle.array_store.specs.Refusals.{RefusesNew, RefusesWord, RefusesAmendment, RefusesAllocation, FitsAllocation, RefusesAbandonment, RefusesLoad, words_loaded};
-ghost use Rattle.array_store.specs.inner.Slots.{slot_arrays, arrays_of, identifiers_of, HasOwnWords, IsLent};
+ghost use Rattle.array_store.specs.Parts.{AreParts, listed, parts_by, store_of_parts};
+ghost use Rattle.array_store.specs.inner.Slots.{slot_arrays, arrays_of, identifiers_of, HasOwnWords, IsLent, arrays_put, AllFit};
 
 use crate::fault::StoreFault;
 use std::alloc::Global;
@@ -83,6 +84,56 @@ impl Store {
             words,
             limits,
         })
+    }
+
+    /// The store of these parts: the number of identifiers made, those abandoned and not reused
+    /// since, the one abandoned first at the beginning, the words of array 0, and the other arrays
+    /// by rising identifier. No words are copied. In time linear in the identifiers made.
+    pub fn restore(
+        alloc: Global,
+        made: u32,
+        abandoned: Vec<u32>,
+        zero: Vec<u32>,
+        arrays: Vec<(u32, Vec<u32>)>,
+        limits: Limits,
+    ) -> Result<Store, Memory>
+        requires parts { AreParts (parts_by made abandoned.items zero.items arrays.items) }
+        requires limits { limits ≡ most_limits }
+        ensures store { IfOk result (λ store. store
+            ≡ store_of_parts (parts_by made abandoned.items zero.items arrays.items) limits) }
+        ensures held { IfOk result IsStore }
+    {
+        words_fit(&zero);
+        let mut free = abandoned;
+        free.reserve(made as usize - free.len())?;
+        let mut slots = empty_slots(alloc, made as usize + 1)?;
+        let words = zero.len() as u64 + fill_slots(&mut slots, arrays);
+        Ok(Store {
+            alloc,
+            zero,
+            named: 0,
+            slots,
+            free,
+            words,
+            limits,
+        })
+    }
+
+    /// The number of identifiers that were ever made. It takes no memory.
+    pub fn made(&self) -> u32
+        ensures value { result ≡ self.now.identifiers.made }
+        ensures held { IsStore self.now }
+    {
+        (self.slots.len() - 1) as u32
+    }
+
+    /// The k-th of the identifiers that were abandoned and not reused since, from 0, in the order of
+    /// their abandonment, or `None` exactly past their end. In constant time, and it takes no memory.
+    pub fn abandoned(&self, k: u32) -> Option<u32>
+        ensures value { result ≡ slice_get self.now.identifiers.abandoned k }
+        ensures held { IsStore self.now }
+    {
+        self.free.get(k as usize).copied()
     }
 
     /// The word at an offset of an array, from 0. `Inactive`, then `Outside`. In constant time.
@@ -244,6 +295,37 @@ fn words_fit(words: &[u32])
     ensures { (at : ℕ) → slice_index words.now at < 2 ^ 32 }
 {
     let _ = words;
+}
+
+// so many slots, none of which has an array
+fn empty_slots(alloc: Global, count: usize) -> Result<Vec<Option<Vec<u32>>>, Memory>
+    ensures empty { IfOk result (λ slots. slot_arrays slots.items ≡ map.empty) }
+    ensures len { IfOk result (λ slots. vec_len slots ≡ count) }
+{
+    let mut slots = Vec::with_capacity(alloc, count)?;
+    for _ in 0..count {
+        slots.push(None)?;
+    }
+    Ok(slots)
+}
+
+// Puts each array into the slot that its identifier numbers, and counts the words.
+fn fill_slots(slots: &mut Vec<Option<Vec<u32>>>, mut arrays: Vec<(u32, Vec<u32>)>) -> u64
+    requires within { All (λ a. a.0 < vec_len slots.old) arrays.items }
+    requires words { words_in (listed arrays.items) < 2 ^ 32 }
+    ensures arrays { slot_arrays slots.new.items
+        ≡ arrays_put (listed arrays.items) (slot_arrays slots.old.items) }
+    ensures words { result ≡ words_in (listed arrays.items) }
+    ensures fit { AllFit (slot_arrays slots.old.items) → AllFit (slot_arrays slots.new.items) }
+    ensures len { vec_len slots.new ≡ vec_len slots.old }
+{
+    let mut count = 0;
+    while let Some((id, words)) = arrays.pop() {
+        words_fit(&words);
+        count += words.len() as u64;
+        put_array(slots, id, words);
+    }
+    count
 }
 
 // The words of an array, if it is there.

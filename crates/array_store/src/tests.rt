@@ -12,6 +12,8 @@ enum Call {
     Index(u32, u32),
     Size(u32),
     Live,
+    Made,
+    Abandoned(u32),
 }
 
 fn told(alloc: Global, store: &mut Store, call: &Call) -> Result<String, AllocError> {
@@ -23,6 +25,8 @@ fn told(alloc: Global, store: &mut Store, call: &Call) -> Result<String, AllocEr
         Call::Index(id, at) => format!(in alloc; "{:?}", store.index(*id, *at)),
         Call::Size(id) => format!(in alloc; "{:?}", store.size(*id)),
         Call::Live => format!(in alloc; "{:?}", store.live()),
+        Call::Made => format!(in alloc; "{:?}", store.made()),
+        Call::Abandoned(k) => format!(in alloc; "{:?}", store.abandoned(*k)),
     }
 }
 
@@ -96,6 +100,15 @@ fn answers(rt: HostRuntime) -> Result<(), Fail> {
         (3, Call::Index(0, 0), "Ok(0)"),
         (3, Call::Load(1), "Ok(())"),
         (3, Call::Index(0, 0), "Ok(8)"),
+        // The identifiers abandoned and not reused, the first at the beginning.
+        (3, Call::Allocate(1), "Ok(2)"),
+        (3, Call::Allocate(1), "Ok(3)"),
+        (3, Call::Abandon(3), "Ok(())"),
+        (3, Call::Abandon(1), "Ok(())"),
+        (3, Call::Made, "3"),
+        (3, Call::Abandoned(0), "Some(3)"),
+        (3, Call::Abandoned(1), "Some(1)"),
+        (3, Call::Abandoned(2), "None"),
     ] {
         assert!(rt; store < 4);
         let answer = told(alloc, &mut stores[store], &call)?;

@@ -60,7 +60,7 @@ has_halted true stop other e = refl
 has_halted false stop other e = absurd (other e)
 
 -- where a run made all its cycles it stands, and the machine runs
-stands_there : (x : Standing Identifiers) (new : MachineView) (u : State) → EndsAs x new u Budget → x ≡ Stands u new.identifiers
+pub stands_there : (x : Standing Identifiers) (new : MachineView) (u : State) → EndsAs x new u Budget → x ≡ Stands u new.identifiers
 stands_there (Stands v i) new u e = ap (λ s. Stands s i) e.0 ∙ ap (Stands u) e.1
 stands_there (Failed v i fault) new u e = absurd (not_budget fault e.2)
 
@@ -85,7 +85,7 @@ module _ (n k : ℕ) (first old new : MachineView) (same : old.limits ≡ first.
     remains = e.remains;
   }
 
-  later : (stop : Stop) → RunEnds k old new u t stop → RunEnds (n + k) first new s t stop
+  pub later : (stop : Stop) → RunEnds k old new u t stop → RunEnds (n + k) first new s t stop
   later ReadFault e = later_early ReadFault e
   later WriteFault e = later_early WriteFault e
   later Memory e = later_early Memory e
@@ -126,7 +126,7 @@ module _ (n k : ℕ) (old new : MachineView) (s t : State) where
     remains = e.remains;
   }
 
-  stay : (stop : Stop) → stop ≢ Budget → RunEnds n old new s t stop → RunEnds (n + k) old new s t stop
+  pub stay : (stop : Stop) → stop ≢ Budget → RunEnds n old new s t stop → RunEnds (n + k) old new s t stop
   stay ReadFault other e = stay_early ReadFault e
   stay WriteFault other e = stay_early WriteFault e
   stay Memory other e = stay_early Memory e

@@ -9,14 +9,16 @@ use Rattle.um_machine.specs.MachineView.{MachineView, IsWhole}
 abbrev pub held_of : MachineView → StoreView
 held_of m = record { arrays = m.arrays; identifiers = m.identifiers; limits = m.limits }
 
-pub whole_of : (m : MachineView) → length m.registers ≡ 8 → ((k : ℕ) → slice_index m.registers k < 2 ^ 32) → IsStore (held_of m) → IsWhole m
-whole_of m eight each held = record {
+pub whole_of : (m : MachineView) → length m.registers ≡ 8 → ((k : ℕ) → slice_index m.registers k < 2 ^ 32) →
+    m.finger < 2 ^ 32 → IsStore (held_of m) → IsWhole m
+whole_of m eight each finger held = record {
   well_formed = λ rest out. record {
     eight = eight;
     registers = each;
     zero_there = (array_at m.arrays 0, held.zero_there);
     platters = held.platters;
   };
+  finger = finger;
   orderly = held.orderly;
   arrays_limit = held.arrays_limit;
   words_limit = held.words_limit;

@@ -1,4 +1,5 @@
 pub mod MachineView
+pub mod MachineParts
 pub mod Outside
 pub mod Stops
 pub mod Runs

@@ -1,5 +1,5 @@
 -- The machine as its contracts see it.
-use Rattle.std.specs.Prelude.{ℕ, ◌≤◌, Bool, false, List, replicate, refl}
+use Rattle.std.specs.Prelude.{ℕ, ◌^◌, ◌<◌, ◌≤◌, Bool, false, List, replicate, refl}
 use Rattle.std.specs.Coded.{Coded, code_by, coded×, coded_ℕ, coded_list, coded_bool}
 use Rattle.std.specs.FinMap as map
 use Rattle.umix_base.specs.declared.limits.Limits.{Limits}
@@ -61,10 +61,11 @@ machine_code =
     })
     (λ _. refl)
 
--- What is true of every machine: its state is well formed, and its identifiers and arrays are those of the
--- rule, within limits that are at most the greatest.
+-- What is true of every machine: its state is well formed, its finger has 32 bits, and its identifiers and
+-- arrays are those of the rule, within limits that are at most the greatest.
 pub record IsWhole (m : MachineView) : Type 0 where
   pub well_formed : (rest out : List ℕ) → IsWellFormed (state_of m rest out)
+  pub finger : m.finger < 2 ^ 32
   pub orderly : IsOrderly m.limits m.identifiers m.arrays
   pub arrays_limit : m.limits.arrays ≤ most_live_arrays
   pub words_limit : m.limits.words ≤ most_live_words

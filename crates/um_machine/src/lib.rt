@@ -3,9 +3,11 @@
 
 pub mod laws;
 mod machine;
+mod saved;
 mod stop;
 #[cfg(test)]
 mod tests;
 
 pub use machine::Machine;
+pub use saved::Saved;
 pub use stop::{Stop, Turn};

@@ -1,23 +1,26 @@
 //! The machine and its calls.
 
 ghost use Rattle.std.specs.Prelude.{◌≡◌, ◌<◌, ◌≤◌, ◌+◌, ◌^◌, ◌⊎◌, ℕ, List, [], slice_get, slice_index, slice_set, false, length, is_some, IfSome, IfOk, OnOk, OnErr, IfErr, Some, Err};
+ghost use Rattle.std.specs.Option.{option_map};
+ghost use Rattle.std.specs.FinMap as map;
 ghost use Rattle.um_word.specs.Operators.{IsEncodable};
 ghost use Rattle.um_word.specs.State.{array_at, live_arrays, live_words};
 ghost use Rattle.um_word.specs.Table.{row, moved, cycle, op_under};
 ghost use Rattle.um_word.specs.Rule.{next_identifier, left_by, identifiers_left};
-ghost use Rattle.array_store.specs.StoreView.{most_live_arrays, most_live_words};
+ghost use Rattle.array_store.specs.StoreView.{most_live_arrays, most_live_words, most_limits};
 ghost use Rattle.um_machine.specs.MachineView.{state_of, machine_of, IsWhole};
+ghost use Rattle.um_machine.specs.MachineParts.{AreMachineParts, parts_of, machine_of_parts};
 ghost use Rattle.um_machine.specs.Outside.{MayRest, MayHold, IsAsked, IsFed};
 ghost use Rattle.um_machine.specs.Stops.{turn_of, is_input, is_output};
 ghost use Rattle.um_machine.specs.inner.OperatorCalls.{AnswersRow, DoesRow, rest_before};
 ghost use Rattle.um_machine.specs.Runs.{seen_by, GoesFromTo, RunEnds, CycleEnds};
 
-use crate::{Stop, Turn};
+use crate::{Saved, Stop, Turn};
 use array_store::{Store, StoreFault};
 use std::alloc::Global;
 use std::marker::Model;
 use um_word::{Op, decode};
-use umix_base::{Failed, Limits, Sink, Source};
+use umix_base::{Failed, Limits, Memory, Sink, Source};
 
 /// A machine, seen as its state without input and output, its identifiers and its limits.
 #[derive(Drop)]
@@ -53,6 +56,13 @@ fn registers_fit(registers: &[u32; 8])
     ensures each { (k : ℕ) → slice_index registers.now k < 2 ^ 32 }
 {
     each_fits(registers);
+}
+
+// what the type says of the finger
+fn finger_fits(finger: u32)
+    ensures { finger < 2 ^ 32 }
+{
+    let _ = finger;
 }
 
 fn each_fits(words: &[u32])
@@ -93,6 +103,36 @@ impl Machine {
         }
     }
 
+    /// The machine of these parts, halted or not as they say, with their number of cycles. The
+    /// limits are the greatest. No words are copied. In time linear in the identifiers made.
+    /// See "The parts of a machine" in docs/IMAGES.md.
+    pub fn restore(alloc: Global, saved: Saved, limits: Limits) -> Result<Machine, Memory>
+        requires parts { AreMachineParts (parts_of saved) }
+        requires limits { limits ≡ most_limits }
+        ensures machine { IfOk result
+            (λ machine. machine ≡ machine_of_parts (parts_of saved) limits) }
+        ensures whole { IfOk result IsWhole }
+    {
+        let store = Store::restore(
+            alloc,
+            saved.made,
+            saved.abandoned,
+            saved.zero,
+            saved.arrays,
+            limits,
+        )?;
+        let registers = saved.registers;
+        let machine = Machine {
+            store,
+            registers,
+            finger: saved.finger,
+            cycles: saved.cycles,
+            halted: saved.halted,
+        };
+        machine.stays_whole();
+        Ok(machine)
+    }
+
     /// The register of this number, which is below 8. Takes no memory.
     pub fn register(&self, k: u8) -> u32
         requires { k < 8 }
@@ -115,6 +155,36 @@ impl Machine {
         self.cycles
     }
 
+    /// Whether the machine has halted. Takes no memory.
+    pub fn halted(&self) -> bool
+        ensures { result ≡ self.now.halted }
+    {
+        self.halted
+    }
+
+    /// The number of identifiers that were ever made. Takes no memory.
+    pub fn made(&self) -> u32
+        ensures { result ≡ self.now.identifiers.made }
+    {
+        self.store.made()
+    }
+
+    /// The k-th of the identifiers that were abandoned and not reused since, from 0, in the order of
+    /// their abandonment, or `None` exactly past their end. Constant time, and it takes no memory.
+    pub fn abandoned(&self, k: u32) -> Option<u32>
+        ensures { result ≡ slice_get self.now.identifiers.abandoned k }
+    {
+        self.store.abandoned(k)
+    }
+
+    /// How many words an array has, or `None` where there is no such array. Constant time, and it takes no
+    /// memory.
+    pub fn size(&self, id: u32) -> Option<u64>
+        ensures { result ≡ option_map length (map.get self.now.arrays id) }
+    {
+        self.store.size(id)
+    }
+
     /// The platter at this offset of an array, from 0. `None` exactly where there is no such array, or
     /// it has no such platter. Constant time, and it takes no memory.
     pub fn word(&self, id: u32, at: u32) -> Option<u32>
@@ -132,6 +202,7 @@ impl Machine {
         ensures whole { IsWhole self.now }
     {
         registers_fit(&self.registers);
+        finger_fits(self.finger);
         self.store.live()
     }
 
@@ -140,12 +211,6 @@ impl Machine {
         ensures { IsWhole self.now }
     {
         let _ = self.live();
-    }
-
-    fn is_halted(&self) -> bool
-        ensures { result ≡ self.now.halted }
-    {
-        self.halted
     }
 
     // a register gets a value
@@ -450,7 +515,7 @@ impl Machine {
         ensures input { IsAsked I.Source input.old input.new (result ≡ Err Stop.ReadFault) }
         ensures out { IsFed O.Sink out.old out.new (result ≡ Err Stop.WriteFault) }
     {
-        if self.is_halted() {
+        if self.halted() {
             self.stays_whole();
             return Ok(Turn::Halted);
         }
@@ -476,7 +541,7 @@ impl Machine {
         ensures input { IsAsked I.Source input.old input.new (result ≡ Stop.ReadFault) }
         ensures out { IsFed O.Sink out.old out.new (result ≡ Stop.WriteFault) }
     {
-        if self.is_halted() {
+        if self.halted() {
             self.stays_whole();
             return Stop::Halted;
         }

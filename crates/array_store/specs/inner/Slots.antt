@@ -1,8 +1,8 @@
 -- What a store's slots stand for.
-use Rattle.std.specs.Prelude.{◌≡◌, ℕ, ◌+◌, ◌-◌, ◌<◌, ◌≤◌, List, [], ◌∷◌, Option, None, Some, length, vec_capacity}
+use Rattle.std.specs.Prelude.{◌≡◌, ℕ, ◌+◌, ◌-◌, ◌^◌, ◌<◌, ◌≤◌, List, [], ◌∷◌, Option, None, Some, length, slice_index, vec_capacity}
 use Rattle.std.specs.Global.{Vec}
 use Rattle.std.specs.FinMap as map
-use Rattle.um_word.specs.State.{Arrays, live_words}
+use Rattle.um_word.specs.State.{Arrays, array_at, live_words}
 use Rattle.um_word.specs.Rule.{Identifiers}
 use Rattle.array_store.specs.StoreView.{StoreView, IsStore}
 use Rattle.array_store.specs.declared.store.Store.TheInside.{Inside}
@@ -12,6 +12,15 @@ abbrev pub arrays_from : ℕ → List (Option (Vec ℕ)) → Arrays
 arrays_from id [] = map.empty
 arrays_from id (None ∷ slots) = arrays_from (id + 1) slots
 arrays_from id (Some words ∷ slots) = map.insert (arrays_from (id + 1) slots) id words.items
+
+-- arrays with these put in, each under its identifier
+abbrev pub arrays_put : List (ℕ × List ℕ) → Arrays → Arrays
+arrays_put [] arrays = arrays
+arrays_put (a ∷ more) arrays = map.insert (arrays_put more arrays) a.0 a.1
+
+-- each word of each array has 32 bits
+abbrev pub AllFit : Arrays → Type 0
+AllFit arrays = (id at : ℕ) → slice_index (array_at arrays id) at < 2 ^ 32
 
 -- not unfolded unless asked, so that proofs speak of the arrays as one value
 unfoldable pub slot_arrays : List (Option (Vec ℕ)) → Arrays

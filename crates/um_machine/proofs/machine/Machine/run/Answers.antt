@@ -8,18 +8,18 @@ use Rattle.um_machine.proofs.Cycles.{Made, made_more, still_running, now_halted}
 use Rattle.um_machine.proofs.Ends.{sent_by, halted_end, budget_end, failed_end}
 use Rattle.um_machine.proofs.machine.Machine.run.Goals as goal
 
-pub returns-then-is_halted-clause-run : goal.returns-then-is_halted-clause-run
-returns-then-is_halted-clause-run g c left may = record {
+pub returns-then-halted-clause-run : goal.returns-then-halted-clause-run
+returns-then-halted-clause-run g c left may = record {
   rest = left;
   may = may;
   sends = λ held holds. sent_by c.args.cycles _ _ left left held Halted
       (halted_end 0 c.args.cycles c.args.self.now c.args.self.now (state_of c.args.self.now left held) left _ (omega arith)
-      (record { sent = held; holds = holds; stands = refl }) (sym c.is_halted.ensures ∙ c.if-is_halted.true));
+      (record { sent = held; holds = holds; stands = refl }) (sym c.halted.ensures ∙ c.if-halted.true));
 }
 
 pub loop-init : goal.loop-init
 loop-init g c = record {
-  running = sym c.is_halted.ensures ∙ c.if-is_halted.false;
+  running = sym c.halted.ensures ∙ c.if-halted.false;
   cycles = omega arith;
   limits = refl;
   source = refl;
