@@ -1,0 +1,14 @@
+pub mod Points
+pub mod Filled
+pub mod Heads
+pub mod Stops
+pub mod Goes
+pub mod Sections
+pub mod Told
+pub mod Entire
+pub mod Put
+pub mod Both
+pub mod Taking
+pub mod Counted
+pub mod Resumed
+pub mod Short
