@@ -1,0 +1,12 @@
+pub mod Courses
+pub mod Figured
+pub mod Inked
+pub mod Laid
+pub mod Leads
+pub mod Legs
+pub mod Lines
+pub mod LinesRead
+pub mod Moved
+pub mod Pairs
+pub mod Pictured
+pub mod Stacked
