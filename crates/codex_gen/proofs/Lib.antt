@@ -1,0 +1,22 @@
+pub mod BoxRow
+pub mod Strip
+pub mod StripBoxes
+pub mod StripWires
+pub mod StripModule
+pub mod StripLines
+pub mod StripsRead
+pub mod Texts
+pub mod Firings
+pub mod Fitting
+pub mod FormTexts
+pub mod ModuleNames
+pub mod GoodStrip
+pub mod GeneratedProgram
+pub mod GeneratedGrid
+pub mod StripMeaning
+pub mod GeneratedMeaning
+pub mod GeneratedLaws
+pub mod WordLemmas
+mod Examples
+pub mod Joined
+pub mod Modules
