@@ -1,0 +1,4 @@
+pub mod Subjects
+pub mod Carried
+pub mod Cut
+pub mod Words
