@@ -24,7 +24,8 @@ pub record AreStarts (m : Drawing) (starts : List Position) : Type 0 where
   pub in_order : AllPairs (λ s t. Before s.place t.place) starts
   pub each : (s : Position) → Contains starts s ↔ IsStart m s
 
--- the cells that a wire tries: those of its trace from the second on, and the one to which it would go on from the last
+-- the cells that a wire tries: those of its trace from the second on, and the one to which it would
+-- go on from the last
 pub record AreTried (m : Drawing) (trace tried : Trace) : Type 0 where
   pub last : Position
   pub more : List Position

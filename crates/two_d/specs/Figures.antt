@@ -40,8 +40,9 @@ module _ (Corner : Place → Type 0) (Figure : Place → Rect → Type 0) where
     live ← the AreLive
     each_after (figure_at opens meets further) [] live
 
--- A kind of figures: what is a corner, which rectangle is the figure of a corner, the fault of a corner
--- without one, the fault of one whose figure meets an earlier one, and what else is asked of a figure.
+-- A kind of figures: what is a corner, which rectangle is the figure of a corner, the fault of a
+-- corner without one, the fault of one whose figure meets an earlier one, and what else is asked of
+-- a figure.
 pub record Kind : Type 1 where
   pub corner : Place → Type 0
   pub figure : Place → Rect → Type 0

@@ -41,7 +41,9 @@ trees_of (call name) = []
 
 -- an input that an expression names isn't wired
 abbrev pub IsUnwired : BoxForm → Type 0
-IsUnwired row = (Any NamesN (trees_of row.command) × IsNone row.n) ⊎ (Any NamesW (trees_of row.command) × IsNone row.w)
+IsUnwired row =
+    (Any NamesN (trees_of row.command) × IsNone row.n)
+    ⊎ (Any NamesW (trees_of row.command) × IsNone row.w)
 
 pub record IsGood (P : Program) : Type 0 where
   pub few : length P < 2 ^ 32

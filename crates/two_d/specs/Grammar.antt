@@ -90,7 +90,8 @@ pub data OpensLevel : List ℕ → ℕ → Type 0 where
 -- it is open only if levels have no bound.
 abbrev pub IsTooDeep : List ℕ → ℕ → Type 0
 IsTooDeep text k =
-    IsLongestOpen text k × ((n : ℕ) × OpensLevel (drop k text) n × IsLooselyOpen (take (k + n) text))
+    IsLongestOpen text k
+    × ((n : ℕ) × OpensLevel (drop k text) n × IsLooselyOpen (take (k + n) text))
 
 -- No text of a command, and not too deep: k bytes are all that can still become one.
 abbrev pub IsBad : List ℕ → ℕ → Type 0

@@ -77,7 +77,8 @@ pub data Effect : Type 0 where
 
 -- what box b of module m does with its inputs
 abbrev pub effect_of : Program → ℕ → ℕ → Form → Inputs → Effect
-effect_of P m b (send outs) a = Done (record { south = sent S outs a; east = sent E outs a; stuck = None })
+effect_of P m b (send outs) a =
+    Done (record { south = sent S outs a; east = sent E outs a; stuck = None })
 effect_of P m b (case x left right) a = Done (chosen left right (trail_of (NoSum m b)) (val x a))
 effect_of P m b (split x) a = Done (parts (trail_of (NoPair m b)) (val x a))
 effect_of P m b (call name) a = Starts (find P name) a
@@ -88,13 +89,15 @@ returned m b (Gives v) = sent_to E v
 returned m b (Stuck trail) = stuck_on (via m b trail)
 
 -- one input of a box, if it isn't wired or its wire carries a value
-abbrev pub with_input : Option Origin → (Origin → Option Value) → (Option Value → Option Inputs) → Option Inputs
+abbrev pub with_input :
+    Option Origin → (Origin → Option Value) → (Option Value → Option Inputs) → Option Inputs
 with_input None look go = go None
 with_input (Some o) look go = elim (look o) [ None ↦ None | Some v ↦ go (Some v) ]
 
 -- the inputs of a box, if each of its wired inputs has a value
 abbrev pub inputs_of : (Origin → Option Value) → BoxForm → Option Inputs
-inputs_of look row = with_input row.n look (λ n. with_input row.w look (λ w. Some (record { north = n; west = w })))
+inputs_of look row =
+    with_input row.n look (λ n. with_input row.w look (λ w. Some (record { north = n; west = w })))
 
 -- the outcome of an instance, with the firings and the instances that it takes
 pub record Meaning : Type 0 where
@@ -125,7 +128,9 @@ instances_of answer x = by_answer (λ c. 0) (λ r. r.instances) 0 answer x
 
 -- what a box does, if it is there and is enabled
 abbrev pub act : Program → ℕ → (Origin → Option Value) → ℕ → Option Effect
-act P m look b = option_and_then (λ row. option_map (effect_of P m b row.command) (inputs_of look row)) (box_at P m b)
+act P m look b =
+    option_and_then (λ row. option_map (effect_of P m b row.command) (inputs_of look row))
+    (box_at P m b)
 
 abbrev pub south_of : Option Cell → Option Value
 south_of None = None
@@ -179,7 +184,8 @@ all_below (suc n) f = all_below n f && f n
 abbrev pub carried_by : (Origin → Option Value) → List (Option Origin) → List Value
 carried_by look [] = []
 carried_by look (None ∷ exits) = carried_by look exits
-carried_by look (Some o ∷ exits) = elim (look o) [ None ↦ carried_by look exits | Some v ↦ v ∷ carried_by look exits ]
+carried_by look (Some o ∷ exits) =
+    elim (look o) [ None ↦ carried_by look exits | Some v ↦ v ∷ carried_by look exits ]
 
 abbrev pub result_of : ℕ → List Value → Outcome
 result_of m [] = Stuck (trail_of (NoResult m))
@@ -193,7 +199,8 @@ unless_stuck (Some trail) o = Stuck trail
 -- the outcome of an instance with these cells and these values on its wires
 unfoldable pub outcome_of : Program → ℕ → (ℕ → Option Cell) → (Origin → Option Value) → Outcome
 outcome_of P m cells look =
-    unless_stuck (first_below (box_count P m) (λ b. stuck_of (cells b))) (result_of m (carried_by look (module_at P m).exits))
+    unless_stuck (first_below (box_count P m) (λ b. stuck_of (cells b)))
+    (result_of m (carried_by look (module_at P m).exits))
 
 abbrev pub count_of : (Effect → ℕ) → Option Effect → ℕ
 count_of f o = unwrap_or (option_map f o) 0
@@ -207,7 +214,8 @@ look_of P answer m a = pulled P answer m a (box_count P m)
 
 -- each use that is enabled has an answer
 abbrev pub all_known : Program → Answers → ℕ → (Origin → Option Value) → Bool
-all_known P answer m look = all_below (box_count P m) (λ b. test_of (is_known answer) (act P m look b))
+all_known P answer m look =
+    all_below (box_count P m) (λ b. test_of (is_known answer) (act P m look b))
 
 abbrev pub summary_of : Program → Answers → ℕ → (Origin → Option Value) → Meaning
 summary_of P answer m look = record {
@@ -219,7 +227,9 @@ summary_of P answer m look = record {
 -- what an instance means, where the modules that it uses mean what answer says
 unfoldable pub meaning_of : Program → Answers → Answers
 meaning_of P answer m a =
-    if all_known P answer m (look_of P answer m a) then Some (summary_of P answer m (look_of P answer m a)) else None
+    if all_known P answer m (look_of P answer m a)
+    then Some (summary_of P answer m (look_of P answer m a))
+    else None
 
 -- what module m means at inputs a, by uses nested less than n deep
 unfoldable pub mean : Program → ℕ → Answers

@@ -25,7 +25,8 @@ IsExit m p = (p.col ≡ m.frame.right) × Contains (exits_of m.grid m.frame) p.r
 
 -- a cell of the module's name
 abbrev pub IsNameCell : Drawing → Place → Type 0
-IsNameCell m p = (p.row ≡ m.frame.top + 1) × (m.frame.left < p.col) × (p.col ≤ m.frame.left + m.name_length)
+IsNameCell m p =
+    (p.row ≡ m.frame.top + 1) × (m.frame.left < p.col) × (p.col ≤ m.frame.left + m.name_length)
 
 -- an interior cell with this byte
 abbrev pub Holds : Drawing → ℕ → Place → Type 0
@@ -38,8 +39,8 @@ IsAcross b p = (b.left < p.col) × (p.col < b.right)
 abbrev pub IsAlong : Rect → Place → Type 0
 IsAlong b p = (b.top < p.row) × (p.row < b.bottom)
 
--- The ports of a box: `v` above it, `>` before it, `|` under it, and `-` after it, there also in the
--- right border. A `v` of the name is none; the other three stand in no name.
+-- The ports of a box: `v` above it, `>` before it, `|` under it, and `-` after it, there also in
+-- the right border. A `v` of the name is none; the other three stand in no name.
 abbrev pub IsNPort : Drawing → Rect → Place → Type 0
 IsNPort m b p = Holds m (byte "v") p × (p.row + 1 ≡ b.top) × IsAcross b p × (IsNameCell m p → ⊥)
 

@@ -22,21 +22,26 @@ use Rattle.two_d.specs.declared.module.To.{To}
 -- the command of a box, or a fault at a byte of its text
 pub data CommandOf (grid : Grid) (b : Rect) : Result Form TextFault → Type 0 where
   command : (c : Form) → IsTextOf (command_text grid b) c → CommandOf grid b (Ok c)
-  bad : (k : ℕ) → IsBad (command_text grid b) k → CommandOf grid b (Err (bad_command (place_in b k)))
-  deep : (k : ℕ) → IsTooDeep (command_text grid b) k → CommandOf grid b (Err (too_deep (place_in b k)))
+  bad : (k : ℕ) → IsBad (command_text grid b) k →
+      CommandOf grid b (Err (bad_command (place_in b k)))
+  deep : (k : ℕ) → IsTooDeep (command_text grid b) k →
+      CommandOf grid b (Err (too_deep (place_in b k)))
 
 -- the drawing of a module with this name and these boxes
 abbrev pub drawing : Grid → Rect → List ℕ → List Rect → Drawing
-drawing grid f name boxes = record { grid = grid; frame = f; name_length = length name; boxes = boxes }
+drawing grid f name boxes =
+    record { grid = grid; frame = f; name_length = length name; boxes = boxes }
 
 -- the module that a drawing shows, with this name, these commands and these wires
-pub record Shows (m : Drawing) (name : List ℕ) (commands : List Form) (wires : List WireForm) (s : ModuleForm) : Type 0 where
+pub record Shows (m : Drawing) (name : List ℕ) (commands : List Form) (wires : List WireForm)
+    (s : ModuleForm) : Type 0 where
   pub named : s.name ≡ name
   pub north : s.north ≡ is_some (slice_get (north_entries m.grid m.frame) 0)
   pub west : s.west ≡ is_some (slice_get (west_entries m.grid m.frame) 0)
   pub commands_are : map (λ (row : BoxForm). row.command) s.boxes ≡ commands
   pub exits : length s.exits ≡ length (exits_of m.grid m.frame)
-  pub wires_are : (o : Origin) (end : To) → Comes s o end ↔ Contains wires (record { from = o; to = end })
+  pub wires_are : (o : Origin) (end : To) →
+      Comes s o end ↔ Contains wires (record { from = o; to = end })
 
 -- a module that was read, and where it and its boxes are drawn
 pub record Drawn : Type 0 where
@@ -63,7 +68,8 @@ abbrev pub module_place : List Drawn → ℕ → Place
 module_place ms i = corner_of (slice_index_or (map (λ (m : Drawn). m.frame) ms) i no_figure)
 
 abbrev pub box_place : List Drawn → ℕ → ℕ → Place
-box_place ms i b = corner_of (slice_index_or (slice_index_or (map (λ (m : Drawn). m.boxes) ms) i []) b no_figure)
+box_place ms i b =
+    corner_of (slice_index_or (slice_index_or (map (λ (m : Drawn). m.boxes) ms) i []) b no_figure)
 
 -- what is wrong with the list of modules, as a fault at a place
 abbrev pub placed_fault : List Drawn → Wrong → TextFault

@@ -75,14 +75,16 @@ each k (x ∷ xs) = do
   give (y ∷ ys)
 
 -- each of the list, in order; k is also given what those before gave
-abbrev pub each_after : {F A B : Type 0} → (List B → A → Reading F B) → List B → List A → Reading F (List B)
+abbrev pub each_after :
+    {F A B : Type 0} → (List B → A → Reading F B) → List B → List A → Reading F (List B)
 each_after k before [] = give before
 each_after k before (x ∷ xs) = do
   y ← k before x
   each_after k (before ++ y ∷ []) xs
 
 -- each of the list, in order, with its number, of which n is the first
-abbrev pub each_from : {F A : Type 0} → (ℕ → A → Reading F (Unit {0})) → ℕ → List A → Reading F (Unit {0})
+abbrev pub each_from :
+    {F A : Type 0} → (ℕ → A → Reading F (Unit {0})) → ℕ → List A → Reading F (Unit {0})
 each_from k n [] = give tt
 each_from k n (x ∷ xs) = do
   k n x

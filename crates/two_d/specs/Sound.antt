@@ -30,7 +30,9 @@ pub record IsSound (m : ModuleForm) : Type 0 where
 
 -- a wire goes from box a to box b
 abbrev pub Feeds : ModuleForm → ℕ → ℕ → Type 0
-Feeds m a b = (Comes m (South a) (N b) ⊎ Comes m (East a) (N b)) ⊎ (Comes m (South a) (W b) ⊎ Comes m (East a) (W b))
+Feeds m a b =
+    (Comes m (South a) (N b) ⊎ Comes m (East a) (N b))
+    ⊎ (Comes m (South a) (W b) ⊎ Comes m (East a) (W b))
 
 -- one wire or more lead from box a to box b
 pub data Reaches (m : ModuleForm) : ℕ → ℕ → Type 0 where

@@ -23,14 +23,26 @@ Table = List Instance
 
 -- what stands where a number names no instance: one that has ended
 abbrev pub nobody : Instance
-nobody = record { kind = 0; parent = None; inputs = no_inputs; cells = []; outcome = Some (Stuck (trail_of (NoResult 0))) }
+nobody = record {
+  kind = 0;
+  parent = None;
+  inputs = no_inputs;
+  cells = [];
+  outcome = Some (Stuck (trail_of (NoResult 0)));
+}
 
 abbrev pub instance_at : Table → ℕ → Instance
 instance_at T i = slice_index_or T i nobody
 
 -- a new instance
 abbrev pub begun : Program → ℕ → Option (ℕ × ℕ) → Inputs → Instance
-begun P m parent a = record { kind = m; parent = parent; inputs = a; cells = replicate (box_count P m) None; outcome = None }
+begun P m parent a = record {
+  kind = m;
+  parent = parent;
+  inputs = a;
+  cells = replicate (box_count P m) None;
+  outcome = None;
+}
 
 abbrev pub fired : Instance → Cells
 fired x b = slice_index_or x.cells b None
@@ -91,7 +103,8 @@ deliver T (Some p) o = set_cell T p.0 p.1 (returned (instance_at T p.0).kind p.1
 unfoldable pub step : Program → Table → Event → Table
 step P T (Fire i b) = fire P T i b (firing P (instance_at T i) b)
 step P T (End i) =
-    deliver (slice_set T i (ended (instance_at T i) (end_of P (instance_at T i)))) (instance_at T i).parent (end_of P (instance_at T i))
+    deliver (slice_set T i (ended (instance_at T i) (end_of P (instance_at T i))))
+    (instance_at T i).parent (end_of P (instance_at T i))
 
 abbrev pub start : Program → Table
 start P = begun P (main_of P) None no_inputs ∷ []

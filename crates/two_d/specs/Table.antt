@@ -33,7 +33,8 @@ UsesNone P row = (name : List ℕ) × UsesName row name × (length P ≤ find P 
 
 -- the entries of the module that the box uses aren't just those that are wired
 abbrev pub UsesBadly : Program → BoxForm → Type 0
-UsesBadly P row = (name : List ℕ) × UsesName row name × (HasInputsOf row (module_at P (find P name)) → ⊥)
+UsesBadly P row =
+    (name : List ℕ) × UsesName row name × (HasInputsOf row (module_at P (find P name)) → ⊥)
 
 -- box b of module m
 abbrev pub box_faults : Program → ℕ → ℕ → BoxForm → Reading Wrong (Unit {0})

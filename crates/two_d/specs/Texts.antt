@@ -30,7 +30,8 @@ caller_line P caller = codes "  in " ++ box_text P caller.0 caller.1 ++ codes "\
 abbrev pub caller_lines : Program → List (ℕ × ℕ) → List ℕ
 caller_lines P callers = flat_map (caller_line P) callers
 
--- the text of an outcome of the program: a line for a value, one for a site, and one for each caller
+-- the text of an outcome of the program: a line for a value, one for a site, and one for each
+-- caller
 abbrev pub text_of : Program → Outcome → List ℕ
 text_of P (Gives v) = show v ++ codes "\n"
 text_of P (Stuck trail) = site_line P trail.site ++ caller_lines P trail.callers

@@ -41,14 +41,19 @@ next s d = record { place = ahead d s.place; to = d }
 pub data StartsAt (m : Drawing) : Position → Origin → Type 0 where
   at_north : (p : Place) → IsNorthEntry m p → StartsAt m (record { place = p; to = south }) North
   at_west : (p : Place) → IsWestEntry m p → StartsAt m (record { place = p; to = east }) West
-  at_south : (p : Place) (i : ℕ) (b : Rect) → slice_get m.boxes i ≡ Some b → IsSPort m b p → StartsAt m (record { place = p; to = south }) (South i)
-  at_east : (p : Place) (i : ℕ) (b : Rect) → slice_get m.boxes i ≡ Some b → IsEPort m b p → StartsAt m (record { place = p; to = east }) (East i)
+  at_south : (p : Place) (i : ℕ) (b : Rect) → slice_get m.boxes i ≡ Some b → IsSPort m b p →
+      StartsAt m (record { place = p; to = south }) (South i)
+  at_east : (p : Place) (i : ℕ) (b : Rect) → slice_get m.boxes i ≡ Some b → IsEPort m b p →
+      StartsAt m (record { place = p; to = east }) (East i)
 
 -- a wire that comes to the position ends there, at this end
 pub data EndsAt (m : Drawing) : Position → To → Type 0 where
-  at_n : (p : Place) (i : ℕ) (b : Rect) → slice_get m.boxes i ≡ Some b → IsNPort m b p → EndsAt m (record { place = p; to = south }) (N i)
-  at_w : (p : Place) (i : ℕ) (b : Rect) → slice_get m.boxes i ≡ Some b → IsWPort m b p → EndsAt m (record { place = p; to = east }) (W i)
-  at_exit : (row i : ℕ) → slice_get (exits_of m.grid m.frame) i ≡ Some row → EndsAt m (record { place = at row m.frame.right; to = east }) (Exit i)
+  at_n : (p : Place) (i : ℕ) (b : Rect) → slice_get m.boxes i ≡ Some b → IsNPort m b p →
+      EndsAt m (record { place = p; to = south }) (N i)
+  at_w : (p : Place) (i : ℕ) (b : Rect) → slice_get m.boxes i ≡ Some b → IsWPort m b p →
+      EndsAt m (record { place = p; to = east }) (W i)
+  at_exit : (row i : ℕ) → slice_get (exits_of m.grid m.frame) i ≡ Some row →
+      EndsAt m (record { place = at row m.frame.right; to = east }) (Exit i)
 
 abbrev pub IsStart : Drawing → Position → Type 0
 IsStart m s = (o : Origin) × StartsAt m s o
@@ -80,8 +85,8 @@ pub record TurnsTo (m : Drawing) (s : Position) (d : Direction) : Type 0 where
   pub may : MayTurn m s d
   pub only : (e : Direction) → MayTurn m s e → e ≡ d
 
--- Where a wire goes on from a position: from an end nowhere, from a turn to the one taker if there is
--- just one and else nowhere, from any other straight ahead.
+-- Where a wire goes on from a position: from an end nowhere, from a turn to the one taker if there
+-- is just one and else nowhere, from any other straight ahead.
 pub data GoesOn (m : Drawing) (s : Position) : List Position → Type 0 where
   ends : IsEnd m s → GoesOn m s []
   turns : (d : Direction) → IsTurn m s → TurnsTo m s d → GoesOn m s (next s d ∷ [])
@@ -102,7 +107,8 @@ Trace = List Position
 -- a way from the start, step by step, on which no cell comes twice on one axis
 pub record IsWay (m : Drawing) (start : Position) (way : Trace) : Type 0 where
   pub first : slice_get way 0 ≡ Some start
-  pub steps : (k : ℕ) (s t : Position) → slice_get way k ≡ Some s → slice_get way (k + 1) ≡ Some t → Step m s t
+  pub steps : (k : ℕ) (s t : Position) → slice_get way k ≡ Some s → slice_get way (k + 1) ≡ Some t →
+      Step m s t
   pub apart : AllPairs (λ s t. Collide m s t → ⊥) way
 
 -- the trace of a wire: the longest such way

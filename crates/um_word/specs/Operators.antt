@@ -13,7 +13,8 @@ operators a b c high value =
 -- operator 13 has its register in bits 25 to 27 and its value in 0 to 24
 abbrev pub decode_word : ℕ → Option Op
 decode_word w =
-    slice_get (operators (w / 2 ^ 6 % 8) (w / 2 ^ 3 % 8) (w % 8) (w / 2 ^ 25 % 8) (w % 2 ^ 25)) (w / 2 ^ 28)
+    slice_get (operators (w / 2 ^ 6 % 8) (w / 2 ^ 3 % 8) (w % 8) (w / 2 ^ 25 % 8) (w % 2 ^ 25))
+    (w / 2 ^ 28)
 
 -- the platter with an operator of this number, these registers, and no other bits
 abbrev pub platter_of : (number a b c : ℕ) → ℕ

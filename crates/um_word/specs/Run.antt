@@ -25,7 +25,9 @@ run_after (Stops fault) s i go = Failed s i fault
 abbrev pub run_by : {I : Type 0} → (I → ℕ) → (State → I → I) → Limits → ℕ → I → State → Standing I
 run_by offer left L zero i s = Stands s i
 run_by offer left L (suc n) i s =
-    if s.halted then Stands s i else run_after (cycle s L (offer i)) s i (run_by offer left L n (left s i))
+    if s.halted
+    then Stands s i
+    else run_after (cycle s L (offer i)) s i (run_by offer left L n (left s i))
 
 -- the operator is an Allocation
 abbrev pub is_allocation : Option Op → Bool
@@ -66,7 +68,8 @@ TakesLegal ids s = is_allocation (op_under s) ≡ true → (1 ≤ length ids) ×
 abbrev pub AreLegal : Limits → ℕ → List ℕ → State → Type 0
 AreLegal L zero ids s = Unit {0}
 AreLegal L (suc n) ids s =
-    s.halted ≡ false → OnGoes (cycle s L (first_of ids)) (λ t. TakesLegal ids s × AreLegal L n (ids_left s ids) t)
+    s.halted ≡ false →
+    OnGoes (cycle s L (first_of ids)) (λ t. TakesLegal ids s × AreLegal L n (ids_left s ids) t)
 
 -- a run goes on from where it stands
 abbrev pub going_on : {I : Type 0} → Standing I → (State → I → Standing I) → Standing I

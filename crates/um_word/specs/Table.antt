@@ -51,8 +51,8 @@ abbrev pub with_byte : ℕ → List ℕ → State → State
 with_byte c [] s = with_reg s c (2 ^ 32 - 1)
 with_byte c (byte ∷ rest) s = with_reg (record s { rest = rest }) c byte
 
--- The rows, each with its faults in their order. The finger has moved on and the cycle is counted in s;
--- an Allocation takes the identifier id.
+-- The rows, each with its faults in their order. The finger has moved on and the cycle is counted
+-- in s; an Allocation takes the identifier id.
 abbrev pub row : Op → Limits → ℕ → State → Next
 row (Move a b c) L id s = Goes (if reg s c == 0 then s else with_reg s a (reg s b))
 row (Index a b c) L id s =
@@ -78,7 +78,9 @@ row (Abandon c) L id s =
     with_some (map.get s.arrays (reg s c)) AbandonInactive (λ _.
     Goes (record s { arrays = map.remove s.arrays (reg s c) }))
 row (Out c) L id s =
-    if nat_lt (reg s c) 256 then Goes (record s { out = s.out ++ reg s c ∷ [] }) else Stops OutputTooLarge
+    if nat_lt (reg s c) 256
+    then Goes (record s { out = s.out ++ reg s c ∷ [] })
+    else Stops OutputTooLarge
 row (Input c) L id s = Goes (with_byte c s.rest s)
 row (Load b c) L id s =
     if reg s b == 0 then Goes (record s { finger = reg s c }) else
