@@ -1,5 +1,5 @@
 -- The numbers that a word joins, and what lists of words ask for.
-use Rattle.std.proofs.Common.{◌≡◌, ◌≢◌, ℕ, suc, ◌+◌, ◌%◌, ◌<◌, ◌≤◌, ◌^◌, List, [], ◌∷◌, ◌++◌, All, map, length, get_or, true, false, eqb, refl, sym, ap, ◌∙◌, arith}
+use Rattle.std.proofs.Common.{◌≡◌, ◌≢◌, ℕ, suc, ◌+◌, ◌%◌, ◌<◌, ◌≤◌, ◌^◌, List, [], ◌∷◌, All, map, length, get_or, false, eqb, refl, sym, ap, ◌∙◌, arith}
 use Rattle.std.specs.Prelude.{decimal}
 use Rattle.std.specs.List.{join_with_byte, slice_split}
 use Rattle.std.proofs.lemmas.Bool.Decides.{nat_tests}
@@ -23,10 +23,10 @@ no_comma n lt =
     decimal_by_steps (λ _ ds. All (λ b. eqb b 44 ≡ false) ds) (λ d small. one_byte d)
     (λ m ds ten none. All-append (λ b. eqb b 44 ≡ false) ds ((48 + m % 10) ∷ []) none (one_byte (m % 10))) n lt
 
-first_small : (n : ℕ) (numbers : List ℕ) → All (λ n. n < 2 ^ 32) (n ∷ numbers) → n < 2 ^ 64
+pub first_small : (n : ℕ) (numbers : List ℕ) → All (λ n. n < 2 ^ 32) (n ∷ numbers) → n < 2 ^ 64
 first_small n numbers small = let lt = All-get_or (λ n. n < 2 ^ 32) (n ∷ numbers) 0 0 (omega arith) small in omega (arith, lt)
 
-others_small : (n : ℕ) (numbers : List ℕ) → All (λ n. n < 2 ^ 32) (n ∷ numbers) → All (λ n. n < 2 ^ 32) numbers
+pub others_small : (n : ℕ) (numbers : List ℕ) → All (λ n. n < 2 ^ 32) (n ∷ numbers) → All (λ n. n < 2 ^ 32) numbers
 others_small n numbers small =
     All-from_get_or (λ n. n < 2 ^ 32) numbers 0 (λ i lt. All-get_or (λ n. n < 2 ^ 32) (n ∷ numbers) (suc i) 0 (omega (arith, lt)) small)
 
@@ -65,18 +65,30 @@ piece_at word numbers part k joined lt is =
       small = omega (arith, small);
     }
 
--- four texts are the texts of a list of four
-pub four_texts : {A : Type 0} (f : A → List ℕ) (xs : List A) (a b c d : A) → 4 ≤ length xs → length xs < 5 →
-    a ≡ get_or xs 0 a → b ≡ get_or xs 1 b → c ≡ get_or xs 2 c → d ≡ get_or xs 3 d →
-    (s t u v : List ℕ) → s ≡ f a → t ≡ f b → u ≡ f c → v ≡ f d → map f xs ≡ s ∷ t ∷ u ∷ v ∷ []
-four_texts f [] a b c d least below ea eb ec ed s t u v es et eu ev = absurd (omega (arith, least))
-four_texts f (w ∷ []) a b c d least below ea eb ec ed s t u v es et eu ev = absurd (omega (arith, least))
-four_texts f (w ∷ x ∷ []) a b c d least below ea eb ec ed s t u v es et eu ev = absurd (omega (arith, least))
-four_texts f (w ∷ x ∷ y ∷ []) a b c d least below ea eb ec ed s t u v es et eu ev = absurd (omega (arith, least))
-four_texts f (w ∷ x ∷ y ∷ z ∷ []) a b c d least below ea eb ec ed s t u v es et eu ev =
-    sym (ap (λ p. p ∷ t ∷ u ∷ v ∷ []) (es ∙ ap f ea) ∙ ap (λ p. f w ∷ p ∷ u ∷ v ∷ []) (et ∙ ap f eb)
-    ∙ ap (λ p. f w ∷ f x ∷ p ∷ v ∷ []) (eu ∙ ap f ec) ∙ ap (λ p. f w ∷ f x ∷ f y ∷ p ∷ []) (ev ∙ ap f ed))
-four_texts f (w ∷ x ∷ y ∷ z ∷ more ∷ rest) a b c d least below ea eb ec ed s t u v es et eu ev = absurd (omega (arith, below))
+-- one text, two, or three are the texts of a list
+pub one_text : {A : Type 0} (f : A → List ℕ) (xs : List A) (a : A) → 1 ≤ length xs → length xs < 2 → a ≡ get_or xs 0 a →
+    (s : List ℕ) → s ≡ f a → map f xs ≡ s ∷ []
+one_text f [] a least below ea s es = absurd (omega (arith, least))
+one_text f (w ∷ []) a least below ea s es = ap (λ p. p ∷ []) (ap f (sym ea) ∙ sym es)
+one_text f (w ∷ x ∷ rest) a least below ea s es = absurd (omega (arith, below))
+
+pub two_texts : {A : Type 0} (f : A → List ℕ) (xs : List A) (a b : A) → 2 ≤ length xs → length xs < 3 →
+    a ≡ get_or xs 0 a → b ≡ get_or xs 1 b → (s t : List ℕ) → s ≡ f a → t ≡ f b → map f xs ≡ s ∷ t ∷ []
+two_texts f [] a b least below ea eb s t es et = absurd (omega (arith, least))
+two_texts f (w ∷ []) a b least below ea eb s t es et = absurd (omega (arith, least))
+two_texts f (w ∷ x ∷ []) a b least below ea eb s t es et =
+    ap (λ p. p ∷ f x ∷ []) (ap f (sym ea) ∙ sym es) ∙ ap (λ p. s ∷ p ∷ []) (ap f (sym eb) ∙ sym et)
+two_texts f (w ∷ x ∷ y ∷ rest) a b least below ea eb s t es et = absurd (omega (arith, below))
+
+pub three_texts : {A : Type 0} (f : A → List ℕ) (xs : List A) (a b c : A) → 3 ≤ length xs → length xs < 4 →
+    a ≡ get_or xs 0 a → b ≡ get_or xs 1 b → c ≡ get_or xs 2 c → (s t u : List ℕ) → s ≡ f a → t ≡ f b → u ≡ f c → map f xs ≡ s ∷ t ∷ u ∷ []
+three_texts f [] a b c least below ea eb ec s t u es et eu = absurd (omega (arith, least))
+three_texts f (w ∷ []) a b c least below ea eb ec s t u es et eu = absurd (omega (arith, least))
+three_texts f (w ∷ x ∷ []) a b c least below ea eb ec s t u es et eu = absurd (omega (arith, least))
+three_texts f (w ∷ x ∷ y ∷ []) a b c least below ea eb ec s t u es et eu =
+    ap (λ p. p ∷ f x ∷ f y ∷ []) (ap f (sym ea) ∙ sym es) ∙ ap (λ p. s ∷ p ∷ f y ∷ []) (ap f (sym eb) ∙ sym et)
+    ∙ ap (λ p. s ∷ t ∷ p ∷ []) (ap f (sym ec) ∙ sym eu)
+three_texts f (w ∷ x ∷ y ∷ z ∷ rest) a b c least below ea eb ec s t u es et eu = absurd (omega (arith, below))
 
 picks_some : (word : List ℕ) (picks : Choice) → IsPicks word picks → PicksSome picks
 picks_some _ _ plain.first = tt
@@ -85,14 +97,10 @@ picks_some _ _ (plain.listed word numbers joined) = joined.some
 
 -- what a list of words asks for is allowed
 pub is_allowed : (words : List (List ℕ)) (job : Job) → Asks words job → IsAllowed job
-is_allowed _ _ (plain.check file) = tt
 is_allowed _ _ (plain.eval file) = (tt, omega arith)
 is_allowed _ _ (plain.eval_by file word picks names) = (picks_some word picks names, omega arith)
 is_allowed _ _ (plain.eval_for file word number picks n names writes) = (picks_some word picks names, writes.small)
 is_allowed _ _ (plain.trace file word number picks n names writes) = (picks_some word picks names, writes.small)
-is_allowed _ _ (plain.compile file out) = tt
 is_allowed _ _ (plain.run file) = omega arith
 is_allowed _ _ (plain.run_for file number n writes) = writes.small
-is_allowed _ _ (plain.asm file out) = tt
-is_allowed _ _ (plain.dis file) = tt
-is_allowed _ _ (plain.debug file input) = tt
+is_allowed _ _ _ = tt

@@ -1,11 +1,11 @@
 -- The boxes of a program are fewer than its weight.
-use Rattle.std.proofs.Common.{◌≡◌, ℕ, ◌+◌, ◌<◌, ◌≤◌, List, [], ◌∷◌, length, take, map, get_or, sum_by, refl, sym, ap, ◌∙◌, arith}
+use Rattle.std.proofs.Common.{◌≡◌, ℕ, ◌+◌, ◌<◌, ◌≤◌, List, [], ◌∷◌, length, take, get_or, sum_by, refl, sym, ap, ◌∙◌, arith}
 use Rattle.std.proofs.lemmas.List.{length-map}
 use Rattle.std.proofs.lemmas.List.Sums.{sum_by-cons, sum_by_more_le}
 use Rattle.two_d.specs.declared.module.Module.{Module}
 use Rattle.two_d.specs.Programs.{BoxForm, ModuleForm, box_of, module_of, modules_of}
 use Rattle.two_d.specs.Weights.{boxes_part, weight}
-use Rattle.codex_top.specs.CheckCommand.{boxes_in}
+use Rattle.codex_top.specs.Commands.{boxes_in}
 
 -- the boxes of modules as they are kept
 abbrev pub boxes_kept : List Module → ℕ

@@ -1,10 +1,17 @@
--- Completeness of the commands on grids, and of `run` of what was compiled.
-use Rattle.std.proofs.Common.{◌≡◌, ◌⊎◌, ℕ, ◌+◌, ◌<◌, ◌≤◌, Bool, true, false, List, length, Option, Some, None, refl, sym, ap, ◌∙◌, subst, inl, inr, arith}
+-- Completeness of the commands.
+use Rattle.std.proofs.Common.{◌≡◌, ◌⊎◌, ℕ, ◌+◌, ◌≤◌, true, List, [], ◌++◌, length, Some, None, refl, sym, ap, ◌∙◌, subst, inl, inr, arith}
 use Rattle.std.specs.Prelude.{Result, Ok, Err}
 use Rattle.std.specs.FinMap as map
 use Rattle.umix_base.specs.Causes.{Rose}
-use Rattle.umix_base.specs.Files.{Lacks}
-use Rattle.um_word.specs.Scroll.{scroll}
+use Rattle.umix_base.specs.declared.limits.Limits.{Limits}
+use Rattle.um_asm.specs.Assembly.{assembled}
+use Rattle.um_asm.specs.Listing.{listing}
+use Rattle.um_debug.specs.declared.debugger.DebugEnd.{DebugEnd}
+use Rattle.um_debug.specs.CommandLines.{Passes}
+use Rattle.um_debug.specs.Debugging.{EndsBy, Fails, Debugs}
+use Rattle.um_debug.specs.Debugging as debugging
+use Rattle.um_debug.specs.Session.{Session}
+use Rattle.um_word.specs.Scroll.{most_scroll_bytes, scroll}
 use Rattle.um_word.specs.State.{State, start_of}
 use Rattle.um_word.specs.Run.{Standing, Stands, Failed, run}
 use Rattle.um_word.specs.Rule.{Identifiers, none_made, handed_out, SameStanding}
@@ -13,12 +20,14 @@ use Rattle.um_word.proofs.Rules.{rules_are_legal}
 use Rattle.um_machine.specs.declared.stop.Stop.{Stop}
 use Rattle.um_machine.specs.declared.stop.Stop.TheVariants as stop
 use Rattle.um_machine.specs.MachineView.{MachineView, machine_of}
+use Rattle.um_machine.specs.Outside.{MayHold}
 use Rattle.um_machine.specs.Runs.{EndsAs, RunEnds}
 use Rattle.um_machine.specs.Stops.{unfailed_end}
+use Rattle.um_machine.proofs.Rests.{some_held}
 use Rattle.two_d.specs.Meaning.{Meaning}
 use Rattle.two_d.specs.Program.{program_of}
 use Rattle.two_d.specs.Programs.{Program}
-use Rattle.two_d.specs.Steps.{HasMeaning}
+use Rattle.two_d.specs.Steps.{Choice, HasMeaning}
 use Rattle.two_d.specs.Texts.{text_of}
 use Rattle.two_d.proofs.OneMeaning.{one_meaning}
 use Rattle.lower_link.specs.Completes.{Completed, IsAmple, CompletesLaw}
@@ -28,163 +37,486 @@ use Rattle.lower_link.proofs.Completed.{completes}
 use Rattle.codex_top.specs.declared.line.Line.{Line}
 use Rattle.codex_top.specs.declared.line.Line.TheVariants as line
 use Rattle.codex_top.specs.declared.end.Finish.TheVariants.{Done}
-use Rattle.codex_top.specs.CheckCommand.{CheckEnds}
-use Rattle.codex_top.specs.CheckCommand as checks
-use Rattle.codex_top.specs.CompileCommand.{CompileEnds}
-use Rattle.codex_top.specs.CompileCommand as compiles
-use Rattle.codex_top.specs.Completeness.{IsUnfailed, IsOrWants, WritesOrWants, Completeness, CompiledRuns}
+use Rattle.codex_top.specs.declared.status.Status.TheVariants as status
+use Rattle.codex_top.specs.Calls.{Call, Has, IsOfCodex, Wrote, status_of_end}
+use Rattle.codex_top.specs.Commands.{Begins, CompiledInto, JobEnds, accepted_line}
+use Rattle.codex_top.specs.Commands as commands
+use Rattle.codex_top.specs.Completeness.{Answers, CompiledComplete, Completeness, EndsInTime, Fills, GridsComplete, IsUnfailed, ScrollsComplete}
+use Rattle.codex_top.specs.DebugCommand.{SessionSits, SessionEnds, end_of_session}
+use Rattle.codex_top.specs.DebugCommand as sessions
 use Rattle.codex_top.specs.Endings.{End}
-use Rattle.codex_top.specs.Evaluating.{finish_of, IsMeantWithin, OutcomeEnds}
+use Rattle.codex_top.specs.Evaluating.{finish_of, IsMeantWithin, IsPrinted, OutcomeEnds}
 use Rattle.codex_top.specs.Evaluating as evaluating
-use Rattle.codex_top.specs.EvalCommand.{EvalEnds}
-use Rattle.codex_top.specs.EvalCommand as evals
-use Rattle.codex_top.specs.Headline.{Tells}
-use Rattle.codex_top.specs.Limits.{limits}
-use Rattle.codex_top.specs.Outside.{Shelved, Stream, Streams, Outside, Received}
-use Rattle.codex_top.specs.ProgramFiles.{ProgramRead}
-use Rattle.codex_top.specs.ProgramFiles as programs
-use Rattle.codex_top.specs.RunCommand.{end_of_run, ScrollRuns, ScrollEnds, RunCommandEnds}
+use Rattle.codex_top.specs.Limits.{limits, most_input_bytes, most_lines, most_text_bytes}
+use Rattle.codex_top.specs.Outside.{Streams, Outside}
+use Rattle.codex_top.specs.Reading.{IsInput, IsNoInput, IsNoProgram, IsNoScroll, IsNoText, IsProgram, IsScroll, IsText, ReadAs}
+use Rattle.codex_top.specs.Reading as reading
+use Rattle.codex_top.specs.RunCommand.{ScrollRuns, ScrollEnds, end_of_run}
 use Rattle.codex_top.specs.RunCommand as runs
-use Rattle.codex_top.specs.ReadFiles.{ScrollRead, IsUnreadable}
-use Rattle.codex_top.specs.ReadFiles as reads
-use Rattle.codex_top.specs.Sending.{ScrollWritten}
+use Rattle.codex_top.specs.Sending.{IsSent, ScrollWritten, TextSent, end_after}
 use Rattle.codex_top.specs.Sending as sending
-use Rattle.codex_top.proofs.Headlines.{run_of, one_content, one_reading_of, one_program, program_there, scroll_done, is_written, no_bad_scroll, same_words, AreWords}
-use Rattle.codex_top.proofs.ProgramLemmas.{program_fits}
+use Rattle.codex_top.specs.TraceCommand.{EventsTold, trace_lines}
+use Rattle.codex_top.specs.TraceCommand as tracing
+use Rattle.codex_top.specs.Words.{Job, Asks}
+use Rattle.codex_top.specs.Words as jobs
+use Rattle.codex_top.proofs.Compiled.{AreWords, right_scroll, run_on, words_read}
+use Rattle.codex_top.proofs.Ended.{Ended, ended, not_read, read_as, told_done, told_so}
+use Rattle.codex_top.proofs.FileLemmas.{length-scroll}
+use Rattle.codex_top.proofs.Headlines.{is_written, one_program, right_grid}
+use Rattle.codex_top.proofs.Pieces.{received_none}
 
--- a file that is there is readable where no read failed
-pub readable : (o : Outside) (now : Shelved) (file text : List ℕ) → Tells o file text → (Rose o.shelf.read_faults now.read_faults → ⊥) → IsUnreadable file o.shelf now → ⊥
-readable o now file text tells none cause = elim cause [
-  | inl rose ↦ none rose
-  | inr lacks ↦
-      let gone : map.get tells.files file ≡ None = subst (λ (files : Option _). Lacks files file) tells.told lacks in
-      let clash : None ≡ Some text = sym gone ∙ tells.has in
-      absurd (cc)
-]
+-- the call ended so, or for want of memory
+abbrev pub IsOrWants : (IsSo : End → Type 0) → End → Type 0
+IsOrWants IsSo end = IsSo end ⊎ (end ≡ Err line.NoMemory)
 
-module _ (file text : List ℕ) (P : Program) (o n : Outside) (tells : Tells o file text) (is : program_of text (Ok P)) (unfailed : IsUnfailed o n) where
-  only_memory : (l : Line) → ProgramRead file o.shelf n.shelf (Err l) → l ≡ line.NoMemory
-  only_memory _ (programs.refused other fault has faulty) =
-      let same = one_content o file text other tells has in
-      let clash : Ok P ≡ Err fault = one_reading_of text (Ok P) (Err fault) is (subst (λ (t : List ℕ). program_of t (Err fault)) same faulty) in
-      absurd (cc)
-  only_memory _ (programs.unread cause) = absurd (readable o n.shelf file text tells unfailed.reads cause)
-  only_memory _ programs.no_memory = refl
+-- the call ended so, with this text written
+abbrev pub EndsWith : (c : Call) (wanted : End) (text : List ℕ) → End → Type 0
+EndsWith c wanted text end = (end ≡ wanted) × Wrote text c
 
-  check_done : (end : End) → CheckEnds file o.shelf n.shelf o.streams.output n.streams.output end → IsOrWants (Ok Done) end
-  check_done _ (checks.unread l read same) = inr (ap Err (only_memory l read))
-  check_done _ (checks.accepted Q _ read (sending.sent received)) = inl refl
-  check_done _ (checks.accepted Q _ read (sending.cut k le received rose)) = absurd (unfailed.output rose)
+-- the call is done without a text, and its file has the scroll of such words
+pub record EndsFilled (c : Call) (out : List ℕ) (Is : List ℕ → Type 0) (end : End) : Type 0 where
+  pub ends : end ≡ Ok Done
+  pub wrote : Wrote [] c
+  pub words : List ℕ
+  pub is : Is words
+  pub filled : Has out (scroll words) c.now
 
-  compile_written : (out words : List ℕ) (end : End) → ScrollWritten out words o.shelf n.shelf end → IsOrWants (Ok Done) end
-  compile_written out words _ (sending.written w) = inl refl
-  compile_written out words _ (sending.cut w rose) = absurd (unfailed.writes rose)
-  compile_written out words _ (sending.no_memory same) = inr refl
+module _ (c : Call) (unfailed : IsUnfailed c) where
+  -- the status of the end of a call in which nothing outside failed
+  unfailed_status : (job : Job) (e : Ended job c) → c.status ≡ status_of_end e.end
+  unfailed_status job e = elim (told_so c.err_before c.err_now e.end c.status e.told) [
+    | inl is ↦ is
+    | inr cut ↦ absurd (unfailed.err cut.1)
+  ]
 
-  compile_done : (out : List ℕ) (end : End) → CompileEnds file out o.shelf n.shelf end → IsOrWants (Ok Done) end
-  compile_done out _ (compiles.unread l read only) = inr (ap Err (only_memory l read))
-  compile_done out _ (compiles.no_memory only) = inr refl
-  compile_done out end (compiles.compiled Q words blocks _ read small few realises follows put) = compile_written out words end put
+  -- what a command does, said of its call
+  module _ (job : Job) (call : IsOfCodex c) (asks : Asks c.words job) (wanted : End) where
+    pub call_ends : ((end : End) → JobEnds job c.before c.now end →
+        IsOrWants (λ end. end ≡ wanted) end) →
+        (c.status ≡ status_of_end wanted) ⊎ (c.status ≡ status.Memory)
+    call_ends does =
+        let e = ended job c call asks in
+        let is = unfailed_status job e in
+        elim e.ends [
+          | inl ran ↦ elim (does e.end ran) [
+            | inl so ↦ inl (is ∙ ap status_of_end so)
+            | inr wants ↦ inr (is ∙ ap status_of_end wants)
+          ]
+          | inr none ↦ inr (is ∙ ap status_of_end none.0)
+        ]
+
+    pub call_gives : (text : List ℕ) → ((end : End) → JobEnds job c.before c.now end →
+        IsOrWants (EndsWith c wanted text) end) →
+        Answers (status_of_end wanted) text c ⊎ (c.status ≡ status.Memory)
+    call_gives text does =
+        let e = ended job c call asks in
+        let is = unfailed_status job e in
+        elim e.ends [
+          | inl ran ↦ elim (does e.end ran) [
+            | inl so ↦ inl (record { ends = is ∙ ap status_of_end so.0; wrote = so.1 })
+            | inr wants ↦ inr (is ∙ ap status_of_end wants)
+          ]
+          | inr none ↦ inr (is ∙ ap status_of_end none.0)
+        ]
+
+  -- a command that fills a file
+  pub call_fills : (job : Job) → IsOfCodex c → Asks c.words job → (out : List ℕ)
+      (Is : List ℕ → Type 0) →
+      ((end : End) → JobEnds job c.before c.now end → IsOrWants (EndsFilled c out Is) end) →
+      ((words : List ℕ) × Is words × Fills out (scroll words) c) ⊎ (c.status ≡ status.Memory)
+  call_fills job call asks out Is does =
+      let e = ended job c call asks in
+      let is = unfailed_status job e in
+      elim e.ends [
+        | inl ran ↦ elim (does e.end ran) [
+          | inl so ↦ inl (
+            so.words,
+            so.is,
+            record {
+              answers = record { ends = is ∙ ap status_of_end so.ends; wrote = so.wrote };
+              filled = so.filled;
+            },
+          )
+          | inr wants ↦ inr (is ∙ ap status_of_end wants)
+        ]
+        | inr none ↦ inr (is ∙ ap status_of_end none.0)
+      ]
+
+  -- a command that begins with a file that is there, and with which nothing is wrong, works on it
+  pub begun : {A : Type 0} (Is : List ℕ → A → Type 0) (IsWrong : List ℕ → Line → Type 0)
+      (file bytes : List ℕ) → Has file bytes c.before →
+      ((l : Line) → IsWrong bytes l → ⊥) → (Untouched : Type 0) (Work : A → End → Type 0)
+      (IsSo : End → Type 0) →
+      ((it : A) (end : End) → Is bytes it → Work it end → IsOrWants IsSo end) → (end : End) →
+      Begins (ReadAs Is IsWrong file c.before.shelf c.now.shelf) Untouched Work end →
+      IsOrWants IsSo end
+  begun Is IsWrong file bytes has right Untouched Work IsSo works _ (commands.unread l read same) =
+      elim (not_read Is IsWrong file bytes c.before c.now has right l read) [
+        | inl failed ↦ absurd (unfailed.reads failed.1)
+        | inr none ↦ inr (ap Err none)
+      ]
+  begun Is IsWrong file bytes has right Untouched Work IsSo works _ (commands.no_memory same) =
+      inr refl
+  begun Is IsWrong file bytes has right Untouched Work IsSo works end
+      (commands.works it _ read work) =
+      works it end (read_as Is IsWrong file bytes c.before c.now has it read) work
+
+  -- what is sent and written
+  text_sent : (text : List ℕ) (end : End) → TextSent text c.before.streams.output
+      c.now.streams.output end → IsOrWants (EndsWith c (Ok Done) text) end
+  text_sent text _ (sending.ends _ (sending.sent received)) = inl (refl, received)
+  text_sent text _ (sending.ends _ (sending.cut k le received rose)) = absurd (unfailed.output rose)
+
+  text_printed : (text : List ℕ) (wanted : End) (r : Result (Unit {0}) Line) →
+      IsPrinted text c.before.streams.output c.now.streams.output r →
+      IsOrWants (EndsWith c wanted text) (end_after r wanted)
+  text_printed text wanted _ (evaluating.sent _ (sending.sent received)) = inl (refl, received)
+  text_printed text wanted _ (evaluating.sent _ (sending.cut k le received rose)) =
+      absurd (unfailed.output rose)
+  text_printed text wanted _ (evaluating.no_memory k le received) = inr refl
+
+  scroll_written : (file bytes : List ℕ) → Has file bytes c.before → (out words : List ℕ)
+      (Is : List ℕ → Type 0) → Is words → (end : End) → c.now.streams ≡ c.before.streams →
+      ScrollWritten out words c.before.shelf c.now.shelf end →
+      IsOrWants (EndsFilled c out Is) end
+  scroll_written file bytes has out words Is is _ same (sending.written w) =
+      inl (record {
+        ends = refl;
+        wrote = ap (λ (s : Streams). s.output.bytes) same ∙ received_none
+            c.before.streams.output.bytes;
+        words = words;
+        is = is;
+        filled = is_written c.before c.now out (scroll words) has.files has.shelf_tells w;
+      })
+  scroll_written file bytes has out words Is is _ same (sending.cut w rose) =
+      absurd (unfailed.writes rose)
+  scroll_written file bytes has out words Is is _ same (sending.no_memory kept) = inr refl
+
+-- commands on an accepted grid
+module _ (file text : List ℕ) (P : Program) (is : program_of text (Ok P)) (c : Call)
+    (has : Has file text c.before) (unfailed : IsUnfailed c) where
+  grid_begun : (Untouched : Type 0) (Work : Program → End → Type 0) (IsSo : End → Type 0) →
+      ((end : End) → Work P end → IsOrWants IsSo end) → (end : End) →
+      Begins (ReadAs IsProgram IsNoProgram file c.before.shelf c.now.shelf) Untouched Work end →
+      IsOrWants IsSo end
+  grid_begun Untouched Work IsSo works =
+      begun c unfailed IsProgram IsNoProgram file text has (right_grid text P is)
+      Untouched Work IsSo
+      (λ Q end read work. works end (subst (λ (R : Program). Work R end)
+      (one_program text P Q is read.reads) work))
+
+  check_done : (end : End) → JobEnds (jobs.checks file) c.before c.now end →
+      IsOrWants (EndsWith c (Ok Done) (accepted_line P)) end
+  check_done end ran = grid_begun _ _ _ (text_sent c unfailed (accepted_line P)) end ran.1
+
+  compile_done : (out : List ℕ) (end : End) → JobEnds (jobs.compiles file out) c.before c.now end →
+      IsOrWants (EndsFilled c out (Realises P)) end
+  compile_done out end ran = grid_begun _ _ _ (λ e work. scroll_written c unfailed file text has
+      out work.words (Realises P) work.realises e ran.0 work.written) end ran.1
 
   module _ (events : ℕ) (r : Meaning) (within : IsMeantWithin events P r) where
-    outcome_done : (end : End) → OutcomeEnds events P o.streams.output n.streams.output end → WritesOrWants (Ok (finish_of r.outcome)) end (text_of P r.outcome) o n
-    outcome_done _ (evaluating.spent spent same) = let lt = spent r within.has in let le = within.within in absurd (omega (arith, lt, le))
-    outcome_done _ (evaluating.told s _ means (evaluating.sent _ (sending.sent received))) =
-        let e : s ≡ r = one_meaning P s r means.has within.has in
-        inl (ap (λ (m : Meaning). Ok (finish_of m.outcome)) e, subst (λ (m : Meaning). Received (text_of P m.outcome) o.streams.output n.streams.output) e received)
-    outcome_done _ (evaluating.told s _ means (evaluating.sent _ (sending.cut k le received rose))) = absurd (unfailed.output rose)
-    outcome_done _ (evaluating.told s _ means (evaluating.no_memory k le received)) = inr refl
+    outcome_done : (end : End) → OutcomeEnds events P c.before.streams.output c.now.streams.output
+        end → IsOrWants (EndsWith c (Ok (finish_of r.outcome)) (text_of P r.outcome)) end
+    outcome_done _ (evaluating.spent spent same) = let lt = spent r within.has in let le =
+        within.within in absurd (omega (arith, lt, le))
+    outcome_done _ (evaluating.told s printed means text) =
+        subst (λ (m : Meaning). IsOrWants (EndsWith c (Ok (finish_of m.outcome))
+        (text_of P m.outcome)) (end_after printed (Ok (finish_of s.outcome))))
+        (one_meaning P s r means.has within.has) (text_printed c unfailed (text_of P s.outcome)
+        (Ok (finish_of s.outcome)) printed text)
 
-    eval_done : (end : End) → EvalEnds file events o.shelf n.shelf o.streams.output n.streams.output end → WritesOrWants (Ok (finish_of r.outcome)) end (text_of P r.outcome) o n
-    eval_done _ (evals.unread l read same) = inr (ap Err (only_memory l read))
-    eval_done _ (evals.no_memory same) = inr refl
-    eval_done end (evals.evaluated Q _ read ends) =
-        outcome_done end (subst (λ (R : Program). OutcomeEnds events R o.streams.output n.streams.output end) (one_program o file text P tells is n.shelf Q read) ends)
+    eval_done : (picks : Choice) (end : End) → JobEnds (jobs.evaluates file picks events)
+        c.before c.now end →
+        IsOrWants (EndsWith c (Ok (finish_of r.outcome)) (text_of P r.outcome)) end
+    eval_done picks end ran = grid_begun _ _ _ outcome_done end ran.1
 
-pub completeness : Completeness
-completeness = record {
-  check = λ file text P before now end tells is unfailed ends. check_done file text P before now tells is unfailed end ends.1;
-  compile = λ file text out P before now end tells is unfailed ends. compile_done file text P before now tells is unfailed out end ends.1;
-  eval = λ file text P picks events r before now end tells is within unfailed ends. eval_done file text P before now tells is unfailed events r within end ends.1;
+    events_done : (picks : Choice) (end : End) → EventsTold P picks events c.before.streams.output
+        c.now.streams.output end →
+        IsOrWants (EndsWith c (Ok (finish_of r.outcome)) (trace_lines P picks events ++ text_of P
+        r.outcome)) end
+    events_done picks _ (tracing.spent printed spent text) = let lt = spent r within.has in let le =
+        within.within in absurd (omega (arith, lt, le))
+    events_done picks _ (tracing.told s printed means text) =
+        subst (λ (m : Meaning). IsOrWants (EndsWith c (Ok (finish_of m.outcome))
+        (trace_lines P picks events ++ text_of P m.outcome))
+        (end_after printed (Ok (finish_of s.outcome))))
+        (one_meaning P s r means.has within.has)
+        (text_printed c unfailed (trace_lines P picks events ++ text_of P s.outcome)
+        (Ok (finish_of s.outcome)) printed text)
+
+    trace_done : (picks : Choice) (end : End) → JobEnds (jobs.traces file picks events)
+        c.before c.now end →
+        IsOrWants (EndsWith c (Ok (finish_of r.outcome)) (trace_lines P picks events ++ text_of P
+        r.outcome)) end
+    trace_done picks end ran = grid_begun _ _ _ (events_done picks) end ran.1
+
+grids : GridsComplete IsOfCodex
+grids = record {
+  check = λ file text P is c call asks has unfailed.
+      call_gives c unfailed (jobs.checks file) call asks (Ok Done) (accepted_line P)
+      (check_done file text P is c has unfailed);
+  compile = λ file out text P is c call asks has unfailed.
+      call_fills c unfailed (jobs.compiles file out) call asks out (Realises P)
+      (compile_done file text P is c has unfailed out);
+  eval = λ file text P picks events r is within c call asks has unfailed.
+      call_gives c unfailed (jobs.evaluates file picks events) call asks (Ok (finish_of r.outcome))
+      (text_of P r.outcome)
+      (eval_done file text P is c has unfailed events r within picks);
+  trace = λ file text P picks events r is within c call asks has unfailed.
+      call_gives c unfailed (jobs.traces file picks events) call asks (Ok (finish_of r.outcome))
+      (trace_lines P picks events ++ text_of P r.outcome)
+      (trace_done file text P is c has unfailed events r within picks);
 }
 
 -- a completed run is so with identifiers by the rule
-completed_moved : (text : List ℕ) (x : Standing Identifiers) (y : Standing (List ℕ)) → SameStanding x y → Completed text y → Completed text x
+completed_moved : (text : List ℕ) (x : Standing Identifiers) (y : Standing (List ℕ)) →
+    SameStanding x y → Completed text y → Completed text x
 completed_moved text (Stands s i) (Stands t j) e h =
-    subst (λ u. Completed text (Stands u i)) (sym e) (record { faultless = refl; halted = h.halted; writes = h.writes })
+    subst (λ u. Completed text (Stands u i)) (sym e) (record {
+      faultless = refl;
+      halted = h.halted;
+      writes = h.writes;
+    })
 completed_moved text (Stands s i) (Failed t j g) e h = absurd e
 completed_moved text (Failed s i f) (Stands t j) e h = absurd e
-completed_moved text (Failed s i f) (Failed t j g) e h = let clash : Some g ≡ None = h.faultless in absurd (cc)
+completed_moved text (Failed s i f) (Failed t j g) e h = let clash : Some g ≡ None = h.faultless in
+    absurd (cc)
 
-completed_by_rule : (P : Program) (words input : List ℕ) (blocks : List (ℕ × ℕ)) (n : ℕ) (r : Meaning) → Realises P words → Follows P words blocks → length words ≤ limits.words →
-    HasMeaning P r → IsAmple P (r.instances + 1) (length (text_of P r.outcome)) limits → AreEnough P r n → Completed (text_of P r.outcome) (run_of words input n)
+completed_by_rule : (P : Program) (words input : List ℕ) (blocks : List (ℕ × ℕ)) (n : ℕ)
+    (r : Meaning) → Realises P words → Follows P words blocks → length words ≤ limits.words →
+    HasMeaning P r → IsAmple P (r.instances + 1) (length (text_of P r.outcome)) limits →
+    AreEnough P r n → Completed (text_of P r.outcome) (run_on words input n)
 unfolding CompletesLaw
 completed_by_rule P words input blocks n r realises follows fits has ample enough =
-    let h = rules_are_legal limits n none_made (start_of words input) (omega arith) (none_made_is_orderly limits words fits) in
-    completed_moved (text_of P r.outcome) (run_of words input n) (run limits n (handed_out limits n none_made (start_of words input)) (start_of words input)) h.same
-    (completes P words blocks realises follows r has limits ample input n (handed_out limits n none_made (start_of words input)) enough h.legal)
+    let h = rules_are_legal limits n none_made (start_of words input) (omega arith)
+    (none_made_is_orderly limits words fits) in
+    completed_moved (text_of P r.outcome) (run_on words input n)
+    (run limits n (handed_out limits n none_made (start_of words input)) (start_of words input))
+    h.same
+    (completes P words blocks realises follows r has limits ample input n
+    (handed_out limits n none_made (start_of words input)) enough h.legal)
 
-module _ (P : Program) (words : List ℕ) (blocks : List (ℕ × ℕ)) (small : AreWords words) (realises : Realises P words) (follows : Follows P words blocks)
-    (short : length words ≤ 12_585_984) (r : Meaning) (has : HasMeaning P r) (ample : IsAmple P (r.instances + 1) (length (text_of P r.outcome)) limits)
-    (out : List ℕ) (cycles : ℕ) (enough : AreEnough P r cycles) (o n : Outside) (tells : Tells o out (scroll words)) (unfailed : IsUnfailed o n) where
-  ended_done : (x : Standing Identifiers) (new : MachineView) (t : State) (why : Stop) → Completed (text_of P r.outcome) x → EndsAs x new t why →
-      Received t.out o.streams.output n.streams.output → WritesOrWants (Ok Done) (end_of_run cycles t.cycles why) (text_of P r.outcome) o n
+module _ (P : Program) (words : List ℕ) (blocks : List (ℕ × ℕ)) (small : AreWords words)
+    (few : length (scroll words) ≤ most_scroll_bytes) (realises : Realises P words)
+    (follows : Follows P words blocks) (r : Meaning) (means : HasMeaning P r)
+    (ample : IsAmple P (r.instances + 1) (length (text_of P r.outcome)) limits)
+    (cycles : ℕ) (enough : AreEnough P r cycles) (file : List ℕ) (c : Call)
+    (has : Has file (scroll words) c.before) (unfailed : IsUnfailed c) where
+  ended_done : (x : Standing Identifiers) (new : MachineView) (t : State) (why : Stop) →
+      Completed (text_of P r.outcome) x → EndsAs x new t why → Wrote t.out c →
+      IsOrWants (EndsWith c (Ok Done) (text_of P r.outcome)) (end_of_run cycles t.cycles why)
   ended_done (Stands s i) new t why h e received =
       let at : t ≡ s = sym e.0 in
       let halted : t.halted ≡ true = ap (λ (u : State). u.halted) at ∙ h.halted in
       let is : why ≡ stop.Halted = e.2 ∙ ap unfailed_end halted in
-      inl (ap (end_of_run cycles t.cycles) is, subst (λ bytes. Received bytes o.streams.output n.streams.output) (ap (λ (u : State). u.out) at ∙ h.writes) received)
-  ended_done (Failed s i f) new t why h e received = let clash : Some f ≡ None = h.faultless in absurd (cc)
+      inl (
+        ap (end_of_run cycles t.cycles) is,
+        subst (λ bytes. Wrote bytes c)
+            (ap (λ (u : State). u.out) at ∙ h.writes) received,
+      )
+  ended_done (Failed s i f) new t why h e received = let clash : Some f ≡ None = h.faultless in
+      absurd (cc)
 
-  ran_done : (input : List ℕ) (new : MachineView) (t : State) (why : Stop) → RunEnds cycles (machine_of words limits) new (start_of words input) t why →
-      (why ≡ stop.ReadFault → Rose o.streams.input.faults n.streams.input.faults) → (why ≡ stop.WriteFault → Rose o.streams.output.faults n.streams.output.faults) →
-      Received t.out o.streams.output n.streams.output → WritesOrWants (Ok Done) (end_of_run cycles t.cycles why) (text_of P r.outcome) o n
-  ran_done input new t stop.ReadFault h reading writing received = absurd (unfailed.input (reading refl))
-  ran_done input new t stop.WriteFault h reading writing received = absurd (unfailed.output (writing refl))
+  ran_done : (input : List ℕ) (new : MachineView) (t : State) (why : Stop) →
+      RunEnds cycles (machine_of words limits) new (start_of words input) t why →
+      (why ≡ stop.ReadFault → Rose c.before.streams.input.faults c.now.streams.input.faults) →
+      (why ≡ stop.WriteFault → Rose c.before.streams.output.faults c.now.streams.output.faults) →
+      Wrote t.out c →
+      IsOrWants (EndsWith c (Ok Done) (text_of P r.outcome)) (end_of_run cycles t.cycles why)
+  ran_done input new t stop.ReadFault h reading writing received =
+      absurd (unfailed.input (reading refl))
+  ran_done input new t stop.WriteFault h reading writing received =
+      absurd (unfailed.output (writing refl))
   ran_done input new t stop.Memory h reading writing received = inr refl
   ran_done input new t why h reading writing received =
-      ended_done (run_of words input cycles) new t why
-      (completed_by_rule P words input blocks cycles r realises follows (omega (arith, short)) has ample enough) h received
+      ended_done (run_on words input cycles) new t why
+      (completed_by_rule P words input blocks cycles r realises follows
+      (omega (arith, few, length-scroll words)) means ample enough) h received
 
-  scroll_done_so : (end : End) → ScrollEnds words cycles o.streams n.streams end → WritesOrWants (Ok Done) end (text_of P r.outcome) o n
-  scroll_done_so _ (runs.no_memory same) = inr refl
-  scroll_done_so _ (runs.ran t why ran) = ran_done ran.input ran.machine t why ran.stops ran.reads ran.writes ran.wrote
+  scroll_done : (end : End) → ScrollEnds words cycles c.before.streams c.now.streams end →
+      IsOrWants (EndsWith c (Ok Done) (text_of P r.outcome)) end
+  scroll_done _ (runs.ran t why ran) = ran_done ran.input ran.machine t why ran.stops ran.reads
+      ran.writes ran.wrote
 
-  read_done : (l : Line) → ScrollRead out o.shelf n.shelf (Err l) → l ≡ line.NoMemory
-  read_done _ (reads.refused bytes fault has_bytes why) =
-      absurd (no_bad_scroll P words small realises short fault (subst (λ (b : List ℕ). reads.IsNoScroll b fault) (one_content o out (scroll words) bytes tells has_bytes) why))
-  read_done _ (reads.unread cause) = absurd (readable o n.shelf out (scroll words) tells unfailed.reads cause)
-  read_done _ reads.no_memory = refl
+  run_done : (end : End) → JobEnds (jobs.runs file cycles) c.before c.now end →
+      IsOrWants (EndsWith c (Ok Done) (text_of P r.outcome)) end
+  run_done end ran =
+      begun c unfailed IsScroll IsNoScroll file (scroll words) has (right_scroll words few) _ _ _
+      (λ read e is work. scroll_done e (subst (λ (ws : List ℕ). ScrollEnds ws cycles
+      c.before.streams c.now.streams e) (words_read words read.items small is.small is.of_words)
+      work))
+      end ran.1
 
-  run_done : (end : End) → RunCommandEnds out cycles o n end → WritesOrWants (Ok Done) end (text_of P r.outcome) o n
-  run_done _ (runs.unread l read same) = inr (ap Err (read_done l read))
-  run_done end (runs.read read _ there ends) =
-      scroll_done_so end (subst (λ (ws : List ℕ). ScrollEnds ws cycles o.streams n.streams end) (same_words P words small realises short o out tells n.shelf read there) ends)
+-- a shelf that tells its files has one content for each name
+one_has : (o : Outside) (name xs ys : List ℕ) → Has name xs o → Has name ys o → xs ≡ ys
+one_has o name xs ys f g =
+    let files : Some f.files ≡ Some g.files = sym f.shelf_tells ∙ g.shelf_tells in
+    let same : f.files ≡ g.files = cc in
+    let e : Some xs ≡ Some ys = sym f.has ∙ ap (λ fs. map.get fs name) same ∙ g.has in
+    cc
 
-compiled_from : (file text out bytes : List ℕ) (P : Program) (before after : Outside) (end : End) → Tells before file text → program_of text (Ok P) → end ≡ Ok Done →
-    CompileEnds file out before.shelf after.shelf end → Tells after out bytes →
-    (r : Meaning) → HasMeaning P r → IsAmple P (r.instances + 1) (length (text_of P r.outcome)) limits →
-    (cycles : ℕ) (o n : Outside) (ended : End) → AreEnough P r cycles → Tells o out bytes → IsUnfailed o n →
-    RunCommandEnds out cycles o n ended → WritesOrWants (Ok Done) ended (text_of P r.outcome) o n
-compiled_from file text out bytes P before after _ tells is e (compiles.unread l read only) wrote r has ample cycles o n ended enough has_out unfailed ends = absurd (cc)
-compiled_from file text out bytes P before after _ tells is e (compiles.no_memory only) wrote r has ample cycles o n ended enough has_out unfailed ends = absurd (cc)
-compiled_from file text out bytes P before after end tells is e (compiles.compiled Q words blocks _ read small few realises follows put) wrote r has ample cycles o n ended enough has_out unfailed ends =
-    let there = program_there before file text after.shelf Q tells read in
-    let fits = program_fits text Q there.0 in
-    let short : length words ≤ 12_585_984 = omega (arith, follows.short, there.1, fits) in
-    let same : Q ≡ P = one_program before file text P tells is after.shelf Q read in
-    let kept = is_written before after out (scroll words) tells.files tells.told (scroll_done out words before.shelf after.shelf end e put) in
-    let equal : bytes ≡ scroll words = one_told after out bytes (scroll words) wrote kept in
-    run_done P words blocks small (subst (λ (R : Program). Realises R words) same realises) (subst (λ (R : Program). Follows R words blocks) same follows)
-    short r has ample out cycles enough o n (subst (Tells o out) equal has_out) unfailed ended ends
-  where
-    one_told : (s : Outside) (name xs ys : List ℕ) → Tells s name xs → Tells s name ys → xs ≡ ys
-    one_told s name xs ys f g =
-        let files : Some f.files ≡ Some g.files = sym f.told ∙ g.told in
-        let same : f.files ≡ g.files = cc in
-        let e : Some xs ≡ Some ys = sym f.has ∙ ap (λ fs. map.get fs name) same ∙ g.has in
-        cc
+-- `run` of what `compile` wrote
+module _ (file out text bytes : List ℕ) (P : Program) (r : Meaning) (is : program_of text (Ok P))
+    (means : HasMeaning P r)
+    (ample : IsAmple P (r.instances + 1) (length (text_of P r.outcome)) limits) (c : Call)
+    (has : Has file text c.before) (wrote : Has out bytes c.now) where
+  compiled_runs : (end : End) → end ≡ Ok Done → CompiledInto P out c.before.shelf c.now.shelf end →
+      (copy : List ℕ) (cycles : ℕ) → AreEnough P r cycles →
+      (d : Call) → IsOfCodex d → Asks d.words (jobs.runs copy cycles) → Has copy bytes d.before →
+      IsUnfailed d → Answers status.Done (text_of P r.outcome) d ⊎ (d.status ≡ status.Memory)
+  compiled_runs end done work copy cycles enough d call asks there unfailed =
+      let same : bytes ≡ scroll work.words = one_has c.now out bytes (scroll work.words) wrote
+      (kept work.words end done work.written) in
+      call_gives d unfailed (jobs.runs copy cycles) call asks (Ok Done) (text_of P r.outcome)
+      (run_done P work.words work.blocks work.small work.few work.realises work.follows r means
+      ample cycles enough copy d (subst (λ bs. Has copy bs d.before) same there) unfailed)
+    where
+      kept : (words : List ℕ) (e : End) → e ≡ Ok Done → ScrollWritten out words c.before.shelf
+          c.now.shelf e → Has out (scroll words) c.now
+      kept words _ e (sending.written w) = is_written c.before c.now out (scroll words)
+          has.files has.shelf_tells w
+      kept words _ e (sending.cut w rose) = absurd (cc)
+      kept words _ e (sending.no_memory same) = absurd (cc)
 
-pub compiled_runs : CompiledRuns
-compiled_runs file text out bytes P before after tells is ends wrote r has ample cycles o n ended enough has_out unfailed ran =
-    compiled_from file text out bytes P before after (Ok Done) tells is refl ends.1 wrote r has ample cycles o n ended enough has_out unfailed ran.1
+  compiled_from : (end : End) → end ≡ Ok Done → JobEnds (jobs.compiles file out)
+      c.before c.now end → (copy : List ℕ) (cycles : ℕ) → AreEnough P r cycles →
+      (d : Call) → IsOfCodex d → Asks d.words (jobs.runs copy cycles) → Has copy bytes d.before →
+      IsUnfailed d → Answers status.Done (text_of P r.outcome) d ⊎ (d.status ≡ status.Memory)
+  compiled_from end done ran = from end done ran.1
+    where
+      from : (e : End) → e ≡ Ok Done → commands.CompileEnds file out c.before.shelf c.now.shelf e →
+          (copy : List ℕ) (cycles : ℕ) → AreEnough P r cycles →
+          (d : Call) → IsOfCodex d → Asks d.words (jobs.runs copy cycles) →
+          Has copy bytes d.before → IsUnfailed d → Answers status.Done (text_of P r.outcome) d ⊎
+          (d.status ≡ status.Memory)
+      from _ e (commands.unread l read only) = absurd (cc)
+      from _ e (commands.no_memory only) = absurd (cc)
+      from e done (commands.works Q _ read work) =
+          compiled_runs e done
+          (subst (λ (R : Program). CompiledInto R out c.before.shelf c.now.shelf e)
+          (one_program text P Q is (read_as IsProgram IsNoProgram file text c.before c.now has Q
+          read).reads) work)
+
+compiled : CompiledComplete IsOfCodex
+compiled file out text bytes P r is means ample c call asks has done wrote copy cycles enough d too
+    runs there unfailed =
+    let e = ended (jobs.compiles file out) c call asks in
+    let so : e.end ≡ Ok Done = told_done c.err_before c.err_now e.end c.status done e.told in
+    elim e.ends [
+      | inl ran ↦ compiled_from file out text bytes P r is means ample c has wrote e.end so ran copy
+          cycles enough d too runs there unfailed
+      | inr none ↦ let f : Err line.NoMemory ≡ Ok Done = sym none.0 ∙ so in absurd (cc)
+    ]
+
+-- commands on texts and scrolls
+right_text : (text words : List ℕ) → length text ≤ most_text_bytes → assembled text ≡ Ok words →
+    (l : Line) → IsNoText text l → ⊥
+right_text text words few is _ (reading.too_long many) = omega (arith, few, many)
+right_text text words few is _ (reading.faulty fault fits faulty) =
+    let clash : Ok words ≡ Err fault = sym is ∙ faulty in cc
+
+one_text : (text xs ys : List ℕ) → assembled text ≡ Ok xs → assembled text ≡ Ok ys → ys ≡ xs
+one_text text xs ys f g = let e : Ok ys ≡ Ok xs = sym g ∙ f in cc
+
+these_words : (out words : List ℕ) (c : Call) →
+    ((ws : List ℕ) × (ws ≡ words) × Fills out (scroll ws) c) ⊎ (c.status ≡ status.Memory) →
+    Fills out (scroll words) c ⊎ (c.status ≡ status.Memory)
+these_words out words c (inl (ws, same, fills)) =
+    inl (subst (λ xs. Fills out (scroll xs) c) same fills)
+these_words out words c (inr none) = inr none
+
+right_input : (bytes : List ℕ) → length bytes ≤ most_input_bytes → (l : Line) → IsNoInput bytes l →
+    ⊥
+right_input bytes few _ (reading.too_long many) = omega (arith, few, many)
+
+module _ (c : Call) (unfailed : IsUnfailed c) where
+  asm_done : (file out text words : List ℕ) → length text ≤ most_text_bytes →
+      assembled text ≡ Ok words → Has file text c.before → (end : End) →
+      JobEnds (jobs.assembles file out) c.before c.now end →
+      IsOrWants (EndsFilled c out (λ ws. ws ≡ words)) end
+  asm_done file out text words few is has end ran =
+      begun c unfailed IsText IsNoText file text has (right_text text words few is) _ _ _
+      (λ ws e read work. scroll_written c unfailed file text has out ws.items (λ xs. xs ≡ words)
+      (one_text text words ws.items is read.assembles) e ran.0 work) end ran.1
+
+  dis_done : (file words : List ℕ) → AreWords words → length (scroll words) ≤ most_scroll_bytes →
+      Has file (scroll words) c.before → (end : End) →
+      JobEnds (jobs.lists file) c.before c.now end → IsOrWants
+      (EndsWith c (Ok Done) (listing words)) end
+  dis_done file words small few has end ran =
+      begun c unfailed IsScroll IsNoScroll file (scroll words) has (right_scroll words few) _ _ _
+      (λ ws e read work. text_sent c unfailed (listing words) e
+      (subst (λ xs. TextSent (listing xs) c.before.streams.output c.now.streams.output e)
+      (words_read words ws.items small read.small read.of_words) work))
+      end ran.1
+
+  module _ (commands_ : List ℕ) (told : c.before.streams.input.bytes ≡ Some commands_)
+      (in_time : EndsInTime commands_) where
+    by_cause : (why : Stop) (end : DebugEnd) → EndsBy ⊥ (Rose c.before.streams.output.faults
+        c.now.streams.output.faults) why end →
+        IsOrWants (λ end. end ≡ Ok Done) (end_of_session end)
+    by_cause stop.ReadFault end e = absurd e.1
+    by_cause stop.WriteFault end e = absurd (unfailed.output e.1)
+    by_cause stop.Memory end e = inr (ap end_of_session e)
+    by_cause _ end e = absurd e
+
+    failed : (L : Limits) (taken : List ℕ) (s : Session) (j : Identifiers) (t : State)
+        (end : DebugEnd) →
+        Fails L taken s ⊥ (Rose c.before.streams.output.faults c.now.streams.output.faults)
+        j t end → IsOrWants (λ end. end ≡ Ok Done) (end_of_session end)
+    failed L taken s j t _ (debugging.at_cycle why end cut e) = by_cause why end e
+    failed L taken s j t _ (debugging.at_reply k cut rose) = absurd (unfailed.output rose)
+    failed L taken s j t _ (debugging.no_memory cut) = inr refl
+
+    debugged : (L : Limits) (given rest : List ℕ) (s : Session) (i : Identifiers) (t : State)
+        (end : DebugEnd) → given ≡ commands_ →
+        Debugs L most_lines given rest s (Rose c.before.streams.input.faults
+        c.now.streams.input.faults) ⊥ (Rose c.before.streams.output.faults
+        c.now.streams.output.faults) i t end →
+        IsOrWants (λ end. end ≡ Ok Done) (end_of_session end)
+    debugged L given rest s _ _ _ is (debugging.turns_made lines t passes many obeys) =
+        absurd (in_time lines rest (subst (λ bs. Passes bs lines rest) is passes) many)
+    debugged L given rest s _ _ _ is (debugging.no_line lines t passes none fewer obeys) = inl refl
+    debugged L given rest s _ _ _ is (debugging.quits lines last t passes fewer quit obeys) =
+        inl refl
+    debugged L given rest s _ _ _ is (debugging.unread lines part t passes fewer begun plain obeys
+        rose) = absurd (unfailed.input rose)
+    debugged L given rest s _ _ _ is (debugging.fails lines taken last t j u end passes fewer line
+        other obeys fails) = failed L taken t j u end fails
+
+    session_done : (ws xs : List ℕ) (end : End) → SessionEnds ws xs c.before.streams c.now.streams
+        end → IsOrWants (λ end. end ≡ Ok Done) end
+    session_done ws xs _ (sessions.sat end sits) =
+        let held = some_held c.before.streams.output.bytes in
+        let x = sits.sits held.0 held.1 in
+        let given : commands_ ≡ sits.commands = subst (λ b. MayHold b sits.commands)
+        told sits.had in
+        debugged _ sits.commands sits.rest _ sits.identifiers x.0 end (sym given) x.2
+
+    debug_done : (file words input bytes : List ℕ) → length (scroll words) ≤ most_scroll_bytes →
+        length bytes ≤ most_input_bytes →
+        Has file (scroll words) c.before → Has input bytes c.before → (end : End) →
+        JobEnds (jobs.debugs file input) c.before c.now end → IsOrWants (λ end. end ≡ Ok Done) end
+    debug_done file words input bytes few short has there end ran =
+        begun c unfailed IsScroll IsNoScroll file (scroll words) has (right_scroll words few) _ _ _
+        (λ ws e read work. begun c unfailed IsInput IsNoInput input bytes there
+        (right_input bytes short) _ _ _
+        (λ xs u is sat. session_done ws.items xs.items u sat) e work)
+        end ran.1
+
+scrolls : ScrollsComplete IsOfCodex
+scrolls = record {
+  asm = λ file out text words few is c call asks has unfailed.
+      these_words out words c (call_fills c unfailed (jobs.assembles file out) call asks out
+      (λ ws. ws ≡ words) (asm_done c unfailed file out text words few is has));
+  dis = λ file words small few c call asks has unfailed.
+      call_gives c unfailed (jobs.lists file) call asks (Ok Done) (listing words)
+      (dis_done c unfailed file words small few has);
+  debug = λ file words input bytes commands few short in_time c call asks has unfailed.
+      call_ends c unfailed (jobs.debugs file input) call asks (Ok Done)
+      (debug_done c unfailed commands has.told in_time file words input bytes few short
+      has.scroll_there has.input_there);
+}
+
+pub completeness : Completeness IsOfCodex
+completeness = record { grids = grids; compiled = compiled; scrolls = scrolls }

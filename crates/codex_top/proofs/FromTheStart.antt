@@ -1,8 +1,8 @@
 -- A run over a sink that has received something is the run from the start, whose bytes went behind.
-use Rattle.std.proofs.Common.{◌≡◌, ℕ, List, [], ◌++◌, Option, Some, None, refl, sym, ap, ◌∙◌, subst}
+use Rattle.std.proofs.Common.{◌≡◌, ℕ, List, [], ◌++◌, Option, Some, None, refl, ap, subst}
 use Rattle.std.specs.Prelude.{option_map}
 use Rattle.umix_base.specs.Causes.{Rose, KeepsTelling}
-use Rattle.um_word.specs.State.{State, start_of}
+use Rattle.um_word.specs.State.{State}
 use Rattle.um_machine.specs.declared.stop.Stop.{Stop}
 use Rattle.um_machine.specs.declared.stop.Stop.TheVariants.{ReadFault, WriteFault}
 use Rattle.um_machine.specs.MachineView.{MachineView, state_of, machine_of}

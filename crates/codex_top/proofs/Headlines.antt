@@ -1,335 +1,307 @@
--- The headline: a run by the rule of words that realise a program, and the files between the commands.
-use Rattle.std.proofs.Common.{◌≡◌, ◌⊎◌, ℕ, zero, suc, ◌+◌, ◌^◌, ◌<◌, ◌≤◌, Bool, true, false, List, [], ◌∷◌, ◌++◌, length, take, drop, Option, Some, None, refl, sym, ap, ◌∙◌, subst, inl, inr, arith}
-use Rattle.std.specs.Prelude.{slice_index, option_map, cond, Result, Ok, Err, Vec}
-use Rattle.std.specs.Int.{w32, to_be_bytes, from_be_bytes}
+-- The headline: the commands of a grid, and the files between them.
+use Rattle.std.proofs.Common.{◌≡◌, ◌⊎◌, ℕ, ◌+◌, ◌≤◌, Bool, true, not, is_some, List, length, take, drop, Option, Some, None, refl, sym, ap, ◌∙◌, subst, inl, inr, arith, take-append-drop}
+use Rattle.std.specs.Prelude.{cond, Result, Ok, Err}
 use Rattle.std.specs.FinMap as map
 use Rattle.std.specs.Cmp.Lexicographic.{nat_list_cmp_total}
-use Rattle.std.specs.declared.alloc.Global.{Global}
-use Rattle.std.proofs.lemmas.List.{append-nil}
-use Rattle.std.proofs.Math.Nat.{mul-mod_right}
+use Rattle.std.proofs.lemmas.Bool.{cases_Bool}
 use Rattle.std.proofs.lemmas.Cmp.{eq_by_cmp_equiv}
-use Rattle.std.proofs.lemmas.Nat.{from_be_bytes-to_be_bytes_4}
-use Rattle.umix_base.specs.declared.limits.Limits.{Limits}
 use Rattle.umix_base.specs.Files.{Files, WritesFile}
 use Rattle.um_word.specs.Scroll.{scroll}
-use Rattle.um_word.specs.declared.scroll.ScrollFault.{ScrollFault}
-use Rattle.um_word.specs.declared.scroll.ScrollFault.TheVariants as scrolls
-use Rattle.um_word.specs.State.{State, start_of}
-use Rattle.um_word.specs.Table.{Fault, ArraysFull, WordsFull, Goes, cycle}
-use Rattle.um_word.specs.Loads.{IsLimit}
-use Rattle.um_word.specs.Run.{Standing, Stands, Failed, run, run_by, going_on, run_after}
-use Rattle.um_word.specs.Rule.{Identifiers, none_made, next_identifier, identifiers_left, ruled, handed_out, SameStanding}
-use Rattle.um_word.proofs.Orderly.{none_made_is_orderly}
-use Rattle.um_word.proofs.Rules.{rules_are_legal}
-use Rattle.um_word.proofs.Runs.{runs_compose}
-use Rattle.um_machine.specs.declared.stop.Stop.{Stop}
-use Rattle.um_machine.specs.declared.stop.Stop.TheVariants as stop
-use Rattle.um_machine.specs.MachineView.{MachineView, machine_of}
-use Rattle.um_machine.specs.Runs.{EndsAs, EndsEarly, RunEnds}
-use Rattle.um_machine.specs.Stops.{stop_of, unfailed_end}
-use Rattle.two_d.specs.Meaning.{Meaning}
+use Rattle.two_d.specs.Meaning.{Meaning, Outcome, mean}
 use Rattle.two_d.specs.Faults.{TextFault}
 use Rattle.two_d.specs.Program.{program_of}
-use Rattle.two_d.specs.Programs.{Program}
-use Rattle.two_d.specs.Steps.{HasMeaning}
 use Rattle.two_d.specs.Texts.{text_of}
-use Rattle.two_d.specs.Weights.{weight}
+use Rattle.two_d.specs.Programs.{Program}
+use Rattle.two_d.specs.Steps.{Choice, Event, Table, EachReady, HasMeaning, IsStateOf, after, instance_at, is_live, start}
+use Rattle.two_d.proofs.OneMeaning.{one_meaning}
+use Rattle.two_d.proofs.Progress.{progress}
+use Rattle.two_d.proofs.Runs.{run_means, run_counts, run_shorter}
 use Rattle.two_d.proofs.SomeProgram.{one_reading}
 use Rattle.box_parse.proofs.Commands.{some_command, one_command_of_box}
-use Rattle.lower_link.specs.Realises.{Realised, Realises}
-use Rattle.codex_top.specs.declared.line.Counted.TheVariants.{Cycles}
+use Rattle.fire_core.proofs.StateLemmas.{state_sound}
 use Rattle.codex_top.specs.declared.line.Line.{Line}
 use Rattle.codex_top.specs.declared.line.Line.TheVariants as line
+use Rattle.codex_top.specs.declared.end.Finish.{Finish}
 use Rattle.codex_top.specs.declared.end.Finish.TheVariants.{Done}
-use Rattle.codex_top.specs.Endings.{End}
-use Rattle.codex_top.specs.Limits.{limits}
-use Rattle.codex_top.specs.Outside.{Shelved, Stream, Streams, Outside, Received, MayHave}
-use Rattle.codex_top.specs.RunCommand.{end_of_run, ScrollEnds, RunCommandEnds}
-use Rattle.codex_top.specs.RunCommand as runs
-use Rattle.codex_top.specs.Commands.{JobEnds}
-use Rattle.codex_top.specs.CompileCommand.{CompileEnds}
-use Rattle.codex_top.specs.CompileCommand as compiles
-use Rattle.codex_top.specs.Evaluating.{OutcomeEnds}
-use Rattle.codex_top.specs.EvalCommand.{EvalEnds}
-use Rattle.codex_top.specs.EvalCommand as evals
-use Rattle.codex_top.specs.Headline.{Tells, IsCutShort, RunTells, IsCompiled, Headline}
-use Rattle.codex_top.specs.ProgramFiles.{ProgramRead}
-use Rattle.codex_top.specs.ProgramFiles as programs
-use Rattle.codex_top.specs.ReadFiles.{ScrollRead, IsNoScroll}
-use Rattle.codex_top.specs.ReadFiles as reads
-use Rattle.codex_top.specs.Sending.{ScrollWritten}
+use Rattle.codex_top.specs.declared.status.Status.{Status}
+use Rattle.codex_top.specs.declared.status.Status.TheVariants as status
+use Rattle.codex_top.specs.Calls.{Call, Has, IsOfCodex, Wrote}
+use Rattle.codex_top.specs.Commands.{Begins, CheckEnds, CompileEnds, CompiledInto, EvalEnds, accepted_line}
+use Rattle.codex_top.specs.Commands as commands
+use Rattle.codex_top.specs.Endings.{End, IsTold}
+use Rattle.codex_top.specs.Endings as endings
+use Rattle.codex_top.specs.Evaluating.{IsMeantWithin, OutcomeEnds, finish_of}
+use Rattle.codex_top.specs.Evaluating as evaluating
+use Rattle.codex_top.specs.Headline.{CompileStops, EvalStops, EveryOrderAgrees, Headline, IsAccepted, IsCompiled, IsCutShort, IsTied, Target}
+use Rattle.codex_top.specs.Headline as headlines
+use Rattle.codex_top.specs.Outside.{Outside}
+use Rattle.codex_top.specs.Reading.{IsNoProgram, IsProgram, ProgramRead}
+use Rattle.codex_top.specs.Reading as reading
+use Rattle.codex_top.specs.Sending.{ScrollWritten, TextSent}
 use Rattle.codex_top.specs.Sending as sending
-use Rattle.codex_top.proofs.FileLemmas.{length-scroll}
-use Rattle.codex_top.proofs.ProgramLemmas.{program_fits}
-use Rattle.codex_top.proofs.Pieces.{received_none}
+use Rattle.codex_top.specs.Words.{Asks}
+use Rattle.codex_top.specs.Words as jobs
+use Rattle.codex_top.proofs.Compiled.{run_tells}
+use Rattle.codex_top.proofs.Ended.{Ended, IsCutEnd, cut_of, cut_status, ended, not_read, read_as, told_done, told_end, told_finish}
+use Rattle.codex_top.proofs.Ended as ends
 
-module _ (P : Program) (input : List ℕ) (n : ℕ) where
-  stood : (s t : State) (i : Identifiers) (j : List ℕ) → s ≡ t → Realised P input n (Stands t j) → Realised P input n (Stands s i)
-  stood s t i j e h =
-      subst (λ u. Realised P input n (Stands u i)) (sym e)
-      (record { faults = h.faults; untaken = h.untaken; begins = h.begins; silent = h.silent; whole = h.whole; ends = h.ends })
+-- in whatever order events are made
+running : (T : Table) → (instance_at T 0).outcome ≡ None → is_live (instance_at T 0) ≡ true
+running T none = ap (λ (o : Option Outcome). not (is_some o)) none
 
-  failed : (s t : State) (i : Identifiers) (j : List ℕ) (f g : Fault) → s ≡ t → f ≡ g → Realised P input n (Failed t j g) → Realised P input n (Failed s i f)
-  failed s t i j f g e same h =
-      subst (λ u. Realised P input n (Failed u i f)) (sym e) (subst (λ x. Realised P input n (Failed t i x)) (sym same)
-      (record { faults = h.faults; untaken = h.untaken; begins = h.begins; silent = h.silent; whole = h.whole; ends = h.ends }))
+longest : (P : Program) (r : Meaning) (events : List Event) → HasMeaning P r →
+    EachReady P (start P) events → length events ≤ r.firings + r.instances
+longest P r events has each = elim (cases_Bool (is_live (instance_at (after P (start P) events) 0))) [
+  | inl up ↦ omega (arith, run_shorter P has.depth r has.means events each up)
+  | inr down ↦ omega (arith, (run_counts P has.depth r has.means events each down).2)
+]
 
-  moved : (x : Standing Identifiers) (y : Standing (List ℕ)) → SameStanding x y → Realised P input n y → Realised P input n x
-  moved (Stands s i) (Stands t j) e h = stood s t i j e h
-  moved (Stands s i) (Failed t j g) e h = absurd e
-  moved (Failed s i f) (Stands t j) e h = absurd e
-  moved (Failed s i f) (Failed t j g) e h = failed s t i j f g e.0 e.1 h
+state_means : (P : Program) (T : Table) (o : Outcome) → IsStateOf P T →
+    (instance_at T 0).outcome ≡ Some o → (r : Meaning) × HasMeaning P r × (r.outcome ≡ o)
+state_means P T o s e =
+    let (n, r, means, same) = run_means P s.events s.each_ready o
+    (ap (λ (U : Table). (instance_at U 0).outcome) (sym s.is) ∙ e) in
+    (r, record { depth = n; means = means }, same)
 
--- the run of words on this input, for so many cycles, with the identifiers of the rule
-abbrev pub run_of : (words input : List ℕ) → ℕ → Standing Identifiers
-run_of words input cycles = ruled limits cycles none_made (start_of words input)
+every_order : (P : Program) → EveryOrderAgrees P
+every_order P = record {
+  agrees = state_means P;
+  some_ready = λ T s none. let (n, sound) = state_sound P T s in
+      progress P (mean P n) T sound (running T none);
+  ends = longest P;
+}
 
--- a run of words that realise a program does so also with identifiers by the rule
-pub realised_by_rule : (P : Program) (words input : List ℕ) (n : ℕ) → Realises P words → length words ≤ limits.words → Realised P input n (run_of words input n)
-realised_by_rule P words input n realises fits =
-    let h = rules_are_legal limits n none_made (start_of words input) (omega arith) (none_made_is_orderly limits words fits) in
-    moved P input n (run_of words input n) (run limits n (handed_out limits n none_made (start_of words input)) (start_of words input)) h.same
-    (realises limits input n (handed_out limits n none_made (start_of words input)) fits h.legal)
+-- a text has one reading
+pub one_reading_of : (text : List ℕ) (r s : Result Program TextFault) → program_of text r →
+    program_of text s → r ≡ s
+one_reading_of text r s a b = let w = one_reading some_command one_command_of_box text in
+    sym (w.2 r a) ∙ w.2 s b
 
--- one cycle that goes on
-step_on : (L : Limits) (s : State) (i : Identifiers) (t : State) → s.halted ≡ false → cycle s L (next_identifier i) ≡ Goes t →
-    run_by next_identifier identifiers_left L 1 i s ≡ Stands t (identifiers_left s i)
-step_on L s i t running goes =
-    ap (λ (b : Bool). cond b (Stands s i) (run_after (cycle s L (next_identifier i)) s i (λ u. Stands u (identifiers_left s i)))) running
-    ∙ ap (λ r. run_after r s i (λ u. Stands u (identifiers_left s i))) goes
+pub one_program : (text : List ℕ) (P Q : Program) → program_of text (Ok P) →
+    program_of text (Ok Q) → Q ≡ P
+one_program text P Q is other = let e = one_reading_of text (Ok P) (Ok Q) is other in cc
 
--- an end that a failure of the outside or want of memory makes
-abbrev pub IsOfOutside : End → Type 0
-IsOfOutside end = (end ≡ Err line.ReadFault) ⊎ (end ≡ Err line.WriteFault) ⊎ (end ≡ Err line.NoMemory)
-
-not_done : (end : End) → IsOfOutside end → end ≡ Ok Done → ⊥
-not_done end why e = elim why [ inl f ↦ cc | inr g ↦ elim g [ inl f ↦ cc | inr f ↦ cc ] ]
-
-not_fault : (end : End) → IsOfOutside end → (s : Stop) (k : ℕ) → end ≡ Err (line.Fault s k) → ⊥
-not_fault end why s k e = elim why [ inl f ↦ cc | inr g ↦ elim g [ inl f ↦ cc | inr f ↦ cc ] ]
-
-not_spent : (end : End) → IsOfOutside end → (k : ℕ) → end ≡ Err (line.Budget k Cycles) → ⊥
-not_spent end why k e = elim why [ inl f ↦ cc | inr g ↦ elim g [ inl f ↦ cc | inr f ↦ cc ] ]
-
-module _ (P : Program) (cycles : ℕ) (before now : Streams) where
-  -- nothing was written
-  pub nothing_told : (end : End) → now ≡ before → IsOfOutside end → RunTells P cycles before now end
-  nothing_told end same why = record {
-    wrote = [];
-    received = rw same (received_none before.output.bytes);
-    begins = λ r has. (text_of P r.outcome, refl);
-    silent = λ none. refl;
-    whole = λ e. absurd (not_done end why e);
-    faultless = not_fault end why;
-    ends = λ r has enough e. not_spent end why cycles e;
-  }
-
-  -- what a run wrote so far
-  begun_told : (input : List ℕ) (n : ℕ) (s : State) (i : Identifiers) (wrote : List ℕ) (end : End) → Realised P input n (Stands s i) → wrote ≡ s.out →
-      Received wrote before.output now.output → IsOfOutside end → RunTells P cycles before now end
-  begun_told input n s i wrote end h is received why = record {
-    wrote = wrote;
-    received = received;
-    begins = λ r has. let (more, e) = h.begins r has in (more, ap (λ out. out ++ more) is ∙ e);
-    silent = λ none. is ∙ h.silent none;
-    whole = λ e. absurd (not_done end why e);
-    faultless = not_fault end why;
-    ends = λ r has enough e. not_spent end why cycles e;
-  }
-
-  stands_told : (input : List ℕ) (t : State) (i : Identifiers) (b : Bool) → t.halted ≡ b → Realised P input cycles (Stands t i) →
-      Received t.out before.output now.output → RunTells P cycles before now (end_of_run cycles t.cycles (unfailed_end b))
-  stands_told input t i true halted h received = record {
-    wrote = t.out;
-    received = received;
-    begins = h.begins;
-    silent = h.silent;
-    whole = λ e. h.whole halted;
-    faultless = λ s k e. cc;
-    ends = λ r has enough e. cc;
-  }
-  stands_told input t i false running h received = record {
-    wrote = t.out;
-    received = received;
-    begins = h.begins;
-    silent = h.silent;
-    whole = λ e. absurd (cc);
-    faultless = λ s k e. cc;
-    ends = λ r has enough e. elim (h.ends r has enough) [ inl halted ↦ let f : true ≡ false = sym halted ∙ running in cc | inr fails ↦ absurd (let f : false ≡ true = fails in cc) ];
-  }
-
-  failed_told : (input : List ℕ) (t : State) (i : Identifiers) (fault : Fault) → IsLimit fault → Realised P input cycles (Failed t i fault) →
-      Received t.out before.output now.output → RunTells P cycles before now (end_of_run cycles t.cycles (stop_of fault))
-  failed_told input t i (ArraysFull count) limit h received = record {
-    wrote = t.out;
-    received = received;
-    begins = h.begins;
-    silent = h.silent;
-    whole = λ e. absurd (cc);
-    faultless = λ s k e. cc;
-    ends = λ r has enough e. cc;
-  }
-  failed_told input t i (WordsFull count) limit h received = record {
-    wrote = t.out;
-    received = received;
-    begins = h.begins;
-    silent = h.silent;
-    whole = λ e. absurd (cc);
-    faultless = λ s k e. cc;
-    ends = λ r has enough e. cc;
-  }
-  failed_told input t i _ limit h received = absurd limit
-
-  stood_told : (input : List ℕ) (x : Standing Identifiers) (new : MachineView) (t : State) (why : Stop) → Realised P input cycles x → EndsAs x new t why →
-      Received t.out before.output now.output → RunTells P cycles before now (end_of_run cycles t.cycles why)
-  stood_told input (Stands s i) new t why h e received =
-      rw e.2 (stands_told input t i t.halted refl (subst (λ u. Realised P input cycles (Stands u i)) e.0 h) received)
-  stood_told input (Failed s i fault) new t why h e received =
-      rw e.2 (failed_told input t i fault h.faults (subst (λ u. Realised P input cycles (Failed u i fault)) e.0 h) received)
-
-  module _ (words : List ℕ) (realises : Realises P words) (fits : length words ≤ limits.words) (input : List ℕ) where
-    -- the cycle that the outside failed
-    next_stands : (made : ℕ) (at next : State) (i : Identifiers) → run_of words input made ≡ Stands at i → at.halted ≡ false →
-        cycle at limits (next_identifier i) ≡ Goes next → run_of words input (made + 1) ≡ Stands next (identifiers_left at i)
-    next_stands made at next i stands running goes =
-        runs_compose next_identifier identifiers_left limits made 1 none_made (start_of words input)
-        ∙ ap (λ x. going_on x (λ t j. run_by next_identifier identifiers_left limits 1 j t)) stands
-        ∙ step_on limits at i next running goes
-
-    early_told : (new : MachineView) (t : State) (why : Stop) (end : End) (h : EndsEarly cycles (machine_of words limits) new (start_of words input) t why) →
-        IsOfOutside end → Received t.out before.output now.output → (t.out ≡ h.at.out) ⊎ (t.out ≡ h.next.out) → RunTells P cycles before now end
-    early_told new t why end h of received out =
-        elim out [
-          | inl same ↦ begun_told input h.made h.at new.identifiers t.out end (subst (Realised P input h.made) h.stands (realised_by_rule P words input h.made realises fits)) same received of
-          | inr same ↦
-              begun_told input (h.made + 1) h.next (identifiers_left h.at new.identifiers) t.out end
-              (subst (Realised P input (h.made + 1)) (next_stands h.made h.at h.next new.identifiers h.stands h.running h.goes) (realised_by_rule P words input (h.made + 1) realises fits))
-              same received of
-        ]
-
-    pub ran_told : (new : MachineView) (t : State) (why : Stop) → RunEnds cycles (machine_of words limits) new (start_of words input) t why →
-        Received t.out before.output now.output → RunTells P cycles before now (end_of_run cycles t.cycles why)
-    ran_told new t stop.ReadFault h received = early_told new t stop.ReadFault (Err line.ReadFault) h (inl refl) received (inl (ap (λ (s : State). s.out) h.remains))
-    ran_told new t stop.WriteFault h received =
-        early_told new t stop.WriteFault (Err line.WriteFault) h (inr (inl refl)) received
-        (elim h.remains [ inl e ↦ inl (ap (λ (s : State). s.out) e) | inr e ↦ inr (ap (λ (s : State). s.out) e) ])
-    ran_told new t stop.Memory h received = early_told new t stop.Memory (Err line.NoMemory) h (inr (inr refl)) received (inl (ap (λ (s : State). s.out) h.remains))
-    ran_told new t why h received = stood_told input (run_of words input cycles) new t why (realised_by_rule P words input cycles realises fits) h received
-
--- words of 32 bits are told by their bytes
-abbrev pub AreWords : List ℕ → Type 0
-AreWords words = (at : ℕ) → slice_index words at < 2 ^ 32
-
-pub same_scroll : (xs ys : List ℕ) → AreWords xs → AreWords ys → scroll xs ≡ scroll ys → xs ≡ ys
-same_scroll [] [] f g e = refl
-same_scroll [] (y ∷ ys) f g e = absurd (let n = ap length e in omega (arith, n))
-same_scroll (x ∷ xs) [] f g e = absurd (let n = ap length e in omega (arith, n))
-same_scroll (x ∷ xs) (y ∷ ys) f g e =
-    let heads : to_be_bytes w32 x ≡ to_be_bytes w32 y = ap (take 4) e in
-    let tails : scroll xs ≡ scroll ys = ap (drop 4) e in
-    let head : x ≡ y = sym (from_be_bytes-to_be_bytes_4 x (f 0)) ∙ ap (from_be_bytes w32) heads ∙ from_be_bytes-to_be_bytes_4 y (g 0) in
-    rw head (ap (λ zs. y ∷ zs) (same_scroll xs ys (λ at. f (suc at)) (λ at. g (suc at)) tails))
-
--- a shelf that tells its files has one content for each name
-pub one_content : (o : Outside) (name xs ys : List ℕ) → Tells o name xs → MayHave o.shelf.files name ys → ys ≡ xs
-one_content o name xs ys tells has =
-    let e : map.get tells.files name ≡ Some ys = subst (λ files. MayHave files name ys) tells.told has in
-    let f : Some ys ≡ Some xs = sym e ∙ tells.has in
-    cc
+-- an accepted grid has no fault
+pub right_grid : (text : List ℕ) (P : Program) → program_of text (Ok P) → (l : Line) →
+    IsNoProgram text l → ⊥
+right_grid text P is _ (reading.faulty fault faulty) = let e =
+    one_reading_of text (Ok P) (Err fault) is faulty in cc
 
 -- what was written is there
-pub is_written : (o n : Outside) (name bytes : List ℕ) (files : Files) → o.shelf.files ≡ Some files → WritesFile name bytes o.shelf.files n.shelf.files (Ok tt) → Tells n name bytes
+pub is_written : (o n : Outside) (name bytes : List ℕ) (files : Files) →
+    o.shelf.files ≡ Some files → WritesFile name bytes o.shelf.files n.shelf.files (Ok tt) →
+    Has name bytes n
 is_written o n name bytes files told w =
     record {
       files = map.insert files name bytes;
-      told = subst (λ (held : Option Files). WritesFile name bytes held n.shelf.files (Ok tt)) told w;
-      has = map.get-insert nat_list_cmp_total files name bytes name ∙ ap (λ (b : Bool). cond b (Some bytes) (map.get files name)) ((eq_by_cmp_equiv nat_list_cmp_total).refl name);
+      shelf_tells = subst (λ (held : Option Files). WritesFile name bytes held n.shelf.files
+          (Ok tt)) told w;
+      has = map.get-insert nat_list_cmp_total files name bytes name
+          ∙ ap (λ (b : Bool). cond b (Some bytes) (map.get files name))
+          ((eq_by_cmp_equiv nat_list_cmp_total).refl name);
     }
 
--- a text has one reading
-pub one_reading_of : (text : List ℕ) (r s : Result Program TextFault) → program_of text r → program_of text s → r ≡ s
-one_reading_of text r s a b = let w = one_reading some_command one_command_of_box text in sym (w.2 r a) ∙ w.2 s b
+-- a file that holds the text of an accepted grid
+module _ (text : List ℕ) (P : Program) (is : program_of text (Ok P)) (file : List ℕ) (c : Call)
+    (has : Has file text c.before) where
+  grid_cut : (target : Target) (l : Line) →
+      ProgramRead file c.before.shelf c.now.shelf (Err l) → IsCutEnd target c (Err l)
+  grid_cut target l read = cut_of target c l (not_read IsProgram IsNoProgram file text c.before
+      c.now has (right_grid text P is) l read)
 
--- a file with a program has no other, and no fault
-module _ (o : Outside) (file text : List ℕ) (P : Program) (tells : Tells o file text) (is : program_of text (Ok P)) where
-  no_refusal : (now : Shelved) (l : Line) → ProgramRead file o.shelf now (Err l) → (l ≡ line.ReadFault) ⊎ (l ≡ line.NoMemory)
-  no_refusal now _ (programs.refused other fault has faulty) =
-      let same = one_content o file text other tells has in
-      let clash : Ok P ≡ Err fault = one_reading_of text (Ok P) (Err fault) is (subst (λ (t : List ℕ). program_of t (Err fault)) same faulty) in
-      absurd (cc)
-  no_refusal now _ (programs.unread cause) = inl refl
-  no_refusal now _ programs.no_memory = inr refl
+  pub grid_read : (Q : Program) → ProgramRead file c.before.shelf c.now.shelf (Ok Q) → Q ≡ P
+  grid_read Q read = one_program text P Q is (read_as IsProgram IsNoProgram file text c.before c.now
+      has Q read).reads
 
-  pub one_program : (now : Shelved) (Q : Program) → ProgramRead file o.shelf now (Ok Q) → Q ≡ P
-  one_program now Q (programs.program other _ has there weighs) =
-      let same = one_content o file text other tells has in
-      let e : Ok P ≡ Ok Q = one_reading_of text (Ok P) (Ok Q) is (subst (λ (t : List ℕ). program_of t (Ok Q)) same there) in
-      cc
+  module _ (events : ℕ) where
+    cut_text : (r : Meaning) (k : ℕ) (s : Status) → IsCutShort headlines.Output c s →
+        IsMeantWithin events P r → Wrote (take k (text_of P r.outcome)) c → EvalStops P events c s
+    cut_text r k s cut means received =
+        headlines.cut_within r (take k (text_of P r.outcome)) (drop k (text_of P r.outcome)) s cut
+        means (take-append-drop k (text_of P r.outcome)) received
 
-  eval_told : (events : ℕ) (now : Shelved) (before after : Stream) (end : End) → EvalEnds file events o.shelf now before after end →
-      OutcomeEnds events P before after end ⊎ IsCutShort before after end
-  eval_told events now before after _ (evals.unread l read same) =
-      inr (record { same = same; why = elim (no_refusal now l read) [ inl e ↦ inl (ap Err e) | inr e ↦ inr (ap Err e) ] })
-  eval_told events now before after _ (evals.no_memory same) = inr (record { same = same; why = inr refl })
-  eval_told events now before after end (evals.evaluated Q _ read ends) = inl (subst (λ (R : Program). OutcomeEnds events R before after end) (one_program now Q read) ends)
+    outcome_stops : (end : End) (s : Status) → OutcomeEnds events P c.before.streams.output
+        c.now.streams.output end → IsTold c.err_before c.err_now end s → EvalStops P events c s
+    outcome_stops _ _ (evaluating.spent few same) (endings.whole _ received later) =
+        headlines.spent few same
+    outcome_stops _ _ (evaluating.spent few same) (endings.cut _ k le received rose) =
+        headlines.cut_before status.WriteFault (headlines.err_failed rose) same
+    outcome_stops _ s (evaluating.told r _ means (evaluating.sent _ (sending.sent received))) told =
+        subst (EvalStops P events c) (sym (told_finish c.err_before c.err_now (finish_of r.outcome)
+        s told)) (headlines.told r means received)
+    outcome_stops _ s (evaluating.told r _ means (evaluating.sent _
+        (sending.cut k le received rose))) told =
+        cut_text r k s (cut_status headlines.Output c (Err line.WriteFault) s
+        (ends.output_failed refl rose) told) means received
+    outcome_stops _ s (evaluating.told r _ means (evaluating.no_memory k le received)) told =
+        cut_text r k s (cut_status headlines.Output c (Err line.NoMemory) s ends.no_memory told)
+        means received
 
-module _ (P : Program) (words : List ℕ) (small : AreWords words) (realises : Realises P words) (short : length words ≤ 12_585_984) where
-  pub no_bad_scroll : (fault : ScrollFault) → IsNoScroll (scroll words) fault → ⊥
-  no_bad_scroll (scrolls.TooLong count) over = omega (arith, over, short, length-scroll words)
-  no_bad_scroll (scrolls.Ragged count) why = why.2 (rw (length-scroll words) (mul-mod_right 4 (length words)))
-  no_bad_scroll scrolls.Memory why = why
+    eval_stops : (end : End) (s : Status) → EvalEnds file events c.before.shelf c.now.shelf
+        c.before.streams.output c.now.streams.output end →
+        IsTold c.err_before c.err_now end s → EvalStops P events c s
+    eval_stops _ s (commands.unread l read same) told = headlines.cut_before s
+        (cut_status headlines.Output c (Err l) s (grid_cut headlines.Output l read) told) same
+    eval_stops _ s (commands.no_memory same) told = headlines.cut_before s
+        (cut_status headlines.Output c (Err line.NoMemory) s ends.no_memory told) same
+    eval_stops end s (commands.works Q _ read work) told =
+        outcome_stops end s (subst (λ (R : Program). OutcomeEnds events R c.before.streams.output
+        c.now.streams.output end) (grid_read Q read) work) told
 
-  module _ (o : Outside) (out : List ℕ) (tells : Tells o out (scroll words)) where
-    run_unread : (cycles : ℕ) (now : Outside) (l : Line) → ScrollRead out o.shelf now.shelf (Err l) → now.streams ≡ o.streams →
-        RunTells P cycles o.streams now.streams (Err l)
-    run_unread cycles now _ (reads.refused bytes fault has why) same =
-        absurd (no_bad_scroll fault (subst (λ (b : List ℕ). IsNoScroll b fault) (one_content o out (scroll words) bytes tells has) why))
-    run_unread cycles now _ (reads.unread cause) same = nothing_told P cycles o.streams now.streams (Err line.ReadFault) same (inl refl)
-    run_unread cycles now _ reads.no_memory same = nothing_told P cycles o.streams now.streams (Err line.NoMemory) same (inr (inr refl))
+  -- how `check` stops
+  sent_stops : (end : End) (s : Status) → TextSent (accepted_line P) c.before.streams.output
+      c.now.streams.output end → IsTold c.err_before c.err_now end s →
+      (s ≡ status.Done) ⊎ IsCutShort headlines.Output c s
+  sent_stops _ s (sending.ends _ (sending.sent received)) told =
+      inl (told_finish c.err_before c.err_now Done s told)
+  sent_stops _ s (sending.ends _ (sending.cut k le received rose)) told =
+      inr (cut_status headlines.Output c (Err line.WriteFault) s (ends.output_failed refl rose)
+      told)
 
-    pub same_words : (now : Shelved) (read : Vec ℕ Global) → ScrollRead out o.shelf now (Ok read) → read.items ≡ words
-    same_words now _ (reads.words read fit has fits) = same_scroll read.items words fit small (one_content o out (scroll words) (scroll read.items) tells has)
+  check_stops : (end : End) (s : Status) → CheckEnds file c.before.shelf c.now.shelf
+      c.before.streams.output c.now.streams.output end → IsTold c.err_before c.err_now end s →
+      (s ≡ status.Done) ⊎ IsCutShort headlines.Output c s
+  check_stops _ s (commands.unread l read same) told =
+      inr (cut_status headlines.Output c (Err l) s (grid_cut headlines.Output l read) told)
+  check_stops _ s (commands.no_memory same) told =
+      inr (cut_status headlines.Output c (Err line.NoMemory) s ends.no_memory told)
+  check_stops end s (commands.works Q _ read work) told =
+      sent_stops end s (subst (λ (R : Program). TextSent (accepted_line R) c.before.streams.output
+      c.now.streams.output end) (grid_read Q read) work) told
 
-    scroll_told : (cycles : ℕ) (now : Streams) (end : End) → ScrollEnds words cycles o.streams now end → RunTells P cycles o.streams now end
-    scroll_told cycles now _ (runs.no_memory same) = nothing_told P cycles o.streams now (Err line.NoMemory) same (inr (inr refl))
-    scroll_told cycles now _ (runs.ran t why ran) =
-        ran_told P cycles o.streams now words realises (omega (arith, short)) ran.input ran.machine t why ran.stops ran.wrote
+  module _ (out : List ℕ) where
+    written_stops : (words : List ℕ) (end : End) (s : Status) → IsCompiled IsOfCodex P words →
+        ScrollWritten out words c.before.shelf c.now.shelf end →
+        IsTold c.err_before c.err_now end s → CompileStops IsOfCodex P out c s
+    written_stops words _ s compiled (sending.written w) told =
+        subst (CompileStops IsOfCodex P out c) (sym (told_finish c.err_before c.err_now Done s
+        told))
+        (headlines.done words (is_written c.before c.now out (scroll words) has.files
+        has.shelf_tells w) compiled)
+    written_stops words _ s compiled (sending.cut w rose) told =
+        headlines.cut_short s
+        (cut_status headlines.File c (Err line.WriteFault) s (ends.write_failed refl rose) told)
+    written_stops words _ s compiled (sending.no_memory same) told =
+        headlines.cut_short s
+        (cut_status headlines.File c (Err line.NoMemory) s ends.no_memory told)
 
-    pub run_told : (cycles : ℕ) (now : Outside) (end : End) → RunCommandEnds out cycles o now end → RunTells P cycles o.streams now.streams end
-    run_told cycles now _ (runs.unread l read same) = run_unread cycles now l read same
-    run_told cycles now end (runs.read read _ there ends) =
-        scroll_told cycles now.streams end (subst (λ (ws : List ℕ). ScrollEnds ws cycles o.streams now.streams end) (same_words now.shelf read there) ends)
+    compile_stops : (end : End) (s : Status) → CompileEnds file out c.before.shelf c.now.shelf end →
+        IsTold c.err_before c.err_now end s → CompileStops IsOfCodex P out c s
+    compile_stops _ s (commands.unread l read only) told = headlines.cut_short s
+        (cut_status headlines.File c (Err l) s (grid_cut headlines.File l read) told)
+    compile_stops _ s (commands.no_memory only) told = headlines.cut_short s
+        (cut_status headlines.File c (Err line.NoMemory) s ends.no_memory told)
+    compile_stops end s (commands.works Q _ read work) told =
+        let w = subst (λ (R : Program). CompiledInto R out c.before.shelf c.now.shelf end)
+        (grid_read Q read) work in
+        written_stops w.words end s
+        (record {
+          small = w.small;
+          realises = w.realises;
+          each_run = λ copy cycles d call asks there. run_tells P w.words w.blocks w.small w.few
+              w.realises w.follows copy cycles d call there asks;
+        }) w.written told
 
-pub scroll_done : (file words : List ℕ) (before now : Shelved) (end : End) → end ≡ Ok Done → ScrollWritten file words before now end →
-    WritesFile file (scroll words) before.files now.files (Ok tt)
-scroll_done file words before now _ e (sending.written w) = w
-scroll_done file words before now _ e (sending.cut w rose) = absurd (cc)
-scroll_done file words before now _ e (sending.no_memory same) = absurd (cc)
+  eval_tied : (picks : _) (events : ℕ) → IsOfCodex c → Asks c.words
+      (jobs.evaluates file picks events) → EvalStops P events c c.status
+  eval_tied picks events call asks =
+      let e = ended (jobs.evaluates file picks events) c call asks in
+      elim e.ends [
+        | inl ran ↦ eval_stops events e.end c.status ran.1 e.told
+        | inr none ↦
+            headlines.cut_before c.status
+            (cut_status headlines.Output c e.end c.status (rw none.0 ends.no_memory) e.told)
+            (ap (λ (o : Outside). o.streams.output) none.1)
+      ]
 
-pub program_there : (o : Outside) (file text : List ℕ) (now : Shelved) (P : Program) → Tells o file text → ProgramRead file o.shelf now (Ok P) →
-    program_of text (Ok P) × (weight P ≤ length text)
-program_there o file text now P tells (programs.program other _ has there weighs) =
-    let same = one_content o file text other tells has in
-    (subst (λ (t : List ℕ). program_of t (Ok P)) same there, subst (λ (t : List ℕ). weight P ≤ length t) same weighs)
+  compile_tied : (out : List ℕ) → IsOfCodex c → Asks c.words (jobs.compiles file out) →
+      CompileStops IsOfCodex P out c c.status
+  compile_tied out call asks =
+      let e = ended (jobs.compiles file out) c call asks in
+      elim e.ends [
+        | inl ran ↦ compile_stops out e.end c.status ran.1 e.told
+        | inr none ↦ headlines.cut_short c.status (cut_status headlines.File c e.end c.status
+            (rw none.0 ends.no_memory) e.told)
+      ]
 
-carried : (file text out : List ℕ) (before after : Outside) (end : End) → Tells before file text → end ≡ Ok Done → CompileEnds file out before.shelf after.shelf end →
-    IsCompiled file text out after
-carried file text out before after _ tells e (compiles.unread l read only) = absurd (cc)
-carried file text out before after _ tells e (compiles.no_memory only) = absurd (cc)
-carried file text out before after end tells e (compiles.compiled P words blocks _ read small few realises follows put) =
-    let there = program_there before file text after.shelf P tells read in
-    let fits = program_fits text P there.0 in
-    let short : length words ≤ 12_585_984 = omega (arith, follows.short, there.1, fits) in
-    record {
-      program = P;
-      is = there.0;
-      scroll = scroll words;
-      written = is_written before after out (scroll words) tells.files tells.told (scroll_done out words before.shelf after.shelf end e put);
-      tied = record {
-        evaluates = λ picks events b n how has ends. eval_told b file text P has there.0 events n.shelf b.streams.output n.streams.output how ends.1;
-        runs = λ cycles b n how has ends. run_told P words small realises short b out has cycles n how ends.1;
-      };
-    }
+  check_tied : IsOfCodex c → Asks c.words (jobs.checks file) →
+      (c.status ≡ status.Done) ⊎ IsCutShort headlines.Output c c.status
+  check_tied call asks =
+      let e = ended (jobs.checks file) c call asks in
+      elim e.ends [
+        | inl ran ↦ check_stops e.end c.status ran.1 e.told
+        | inr none ↦ inr (cut_status headlines.Output c e.end c.status (rw none.0 ends.no_memory)
+            e.told)
+      ]
 
-pub headline : Headline
-headline file text out before after tells ends = carried file text out before after (Ok Done) tells refl ends.1
+tied : (text : List ℕ) (P : Program) → program_of text (Ok P) → IsTied IsOfCodex text P
+tied text P is = record {
+  one_meaning = one_meaning P;
+  every_order = every_order P;
+  each_check = λ file c call asks has. check_tied text P is file c has call asks;
+  each_eval = λ file picks events c call asks has. eval_tied text P is file c has picks events call
+      asks;
+  each_compile = λ file out c call asks has. compile_tied text P is file c has out call asks;
+}
+
+-- what is done begins with a program
+module _ (file text : List ℕ) (c : Call) (call : IsOfCodex c) (has : Has file text c.before)
+  where
+    program_there : (Q : Program) → ProgramRead file c.before.shelf c.now.shelf (Ok Q) →
+        IsAccepted text
+    program_there Q read = (
+      Q,
+      (read_as IsProgram IsNoProgram file text c.before c.now has Q
+          read).reads,
+    )
+
+    -- and so is each command that reads a grid and ends without a line
+    accepts : (Untouched : Type 0) (Work : Program → End → Type 0) (end : End) (f : Finish) →
+        end ≡ Ok f → Begins (ProgramRead file c.before.shelf c.now.shelf) Untouched Work end →
+        IsAccepted text
+    accepts Untouched Work _ f e (commands.unread l read same) = absurd (cc)
+    accepts Untouched Work _ f e (commands.no_memory same) = absurd (cc)
+    accepts Untouched Work end f e (commands.works Q _ read work) = program_there Q read
+
+    -- where nothing was done the end has a line
+    no_finish : (end : End) (f : Finish) → end ≡ Ok f → end ≡ Err line.NoMemory → IsAccepted text
+    no_finish end f e none = let clash : Ok f ≡ Err line.NoMemory = sym e ∙ none in absurd (cc)
+
+    checked : c.status ≡ status.Done → Asks c.words (jobs.checks file) → IsAccepted text
+    checked done asks =
+        let e = ended (jobs.checks file) c call asks in
+        let d = told_done c.err_before c.err_now e.end c.status done e.told in
+        elim e.ends [
+          | inl ran ↦ accepts _ _ e.end Done d ran.1
+          | inr none ↦ no_finish e.end Done d none.0
+        ]
+
+    evaluated : (picks : Choice) (events : ℕ) → (c.status ≡ status.Done) ⊎ (c.status ≡ status.Stuck) →
+        Asks c.words (jobs.evaluates file picks events) → IsAccepted text
+    evaluated picks events ends_so asks =
+        let e = ended (jobs.evaluates file picks events) c call asks in
+        let (f, d) = told_end c.err_before c.err_now e.end c.status ends_so e.told in
+        elim e.ends [
+          | inl ran ↦ accepts _ _ e.end f d ran.1
+          | inr none ↦ no_finish e.end f d none.0
+        ]
+
+    compiled : (out : List ℕ) → c.status ≡ status.Done → Asks c.words (jobs.compiles file out) →
+        IsAccepted text
+    compiled out done asks =
+        let e = ended (jobs.compiles file out) c call asks in
+        let d = told_done c.err_before c.err_now e.end c.status done e.told in
+        elim e.ends [
+          | inl ran ↦ accepts _ _ e.end Done d ran.1
+          | inr none ↦ no_finish e.end Done d none.0
+        ]
+
+pub headline : Headline IsOfCodex
+headline = record {
+  one_program = λ text P Q is other. sym (one_program text P Q is other);
+  accepted = tied;
+  checked = λ file text c call asks has done. checked file text c call has done asks;
+  evaluated = λ file text picks events c call asks has ends_so.
+      evaluated file text c call has picks events ends_so asks;
+  compiled = λ file out text c call asks has done. compiled file text c call has out done asks;
+}

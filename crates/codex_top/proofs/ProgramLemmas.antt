@@ -1,8 +1,7 @@
 -- What `check` tells of the bytes that were read of a file.
-use Rattle.std.proofs.Common.{◌≡◌, ◌≤◌, ◌<◌, ℕ, List, length, Option, Some, None, refl, sym, ap, ◌∙◌, subst, inl, inr, arith}
-use Rattle.std.specs.Prelude.{Result, Ok, Err, IfErr, Vec, MatchOption, ⊤}
+use Rattle.std.proofs.Common.{◌≡◌, ◌≤◌, ◌<◌, ℕ, List, length, Option, Some, None, refl, sym, ap, subst, inl, inr, arith}
+use Rattle.std.specs.Prelude.{Ok, Err, MatchOption, ⊤}
 use Rattle.std.specs.Option.{unwrap_or}
-use Rattle.std.specs.declared.alloc.Global.{Global}
 use Rattle.std.proofs.lemmas.Bool.{cases_lt}
 use Rattle.umix_base.specs.declared.place.Place.{Place}
 use Rattle.two_d.specs.Cells.{Grid, grid_of}
@@ -17,12 +16,10 @@ use Rattle.module_table.specs.declared.fault.CheckFault.TheVariants.{Bad, Memory
 use Rattle.codex_top.specs.declared.line.Line.{Line}
 use Rattle.codex_top.specs.declared.line.Line.TheVariants.{NoMemory}
 use Rattle.codex_top.specs.Limits.{most_grid_bytes}
-use Rattle.codex_top.specs.Lines as lines
 use Rattle.codex_top.specs.Outside.{Shelved}
-use Rattle.codex_top.specs.ReadFiles.{FileRead}
-use Rattle.codex_top.specs.ReadFiles as reading
-use Rattle.codex_top.specs.ProgramFiles.{ProgramRead, after_name, grid_line}
-use Rattle.codex_top.specs.ProgramFiles as programs
+use Rattle.codex_top.specs.Reading.{ProgramRead}
+use Rattle.codex_top.specs.Reading as reading
+use Rattle.codex_top.specs.Refusals.{refused as refused_line, after_name, grid_line}
 use Rattle.codex_top.proofs.FileLemmas.{Seen}
 
 -- a fault that was told is one of the reading
@@ -62,12 +59,15 @@ module _ (file : List ℕ) (before now : Shelved) (bytes : List ℕ) (s : Seen b
   program_read P told weighs =
       let is = told_ok number_and_place (program_of bytes) P told in
       let same = s.whole (program_fits bytes P is) in
-      programs.program s.held P s.has (subst (λ text. program_of text (Ok P)) (sym same) is) (subst (λ text. weight P ≤ length text) (sym same) weighs)
+      reading.holds s.held P s.has (record {
+        reads = subst (λ text. program_of text (Ok P)) (sym same) is;
+        weighs = subst (λ text. weight P ≤ length text) (sym same) weighs;
+      })
 
   fault_read : (f : TextFault) → program_of bytes (Err f) → ProgramRead file before now (Err (grid_line f))
   fault_read f is = elim (cases_lt most_grid_bytes (length bytes)) [
-    | inl over ↦ rw (program_over bytes f over is) (programs.refused s.held too_long s.has (is_over s.held (s.over over)))
-    | inr fits ↦ programs.refused s.held f s.has (subst (λ text. program_of text (Err f)) (sym (s.whole fits)) is)
+    | inl over ↦ rw (program_over bytes f over is) (reading.refused s.held _ s.has (reading.faulty too_long (is_over s.held (s.over over))))
+    | inr fits ↦ reading.refused s.held _ s.has (reading.faulty f (subst (λ text. program_of text (Err f)) (sym (s.whole fits)) is))
   ]
 
   pub fault_told : (fault : CheckFault) (line : Line) → Refuses (faults_mapped number_and_place (program_of bytes)) (answer_of fault) →
@@ -76,7 +76,7 @@ module _ (file : List ℕ) (before now : Shelved) (bytes : List ℕ) (s : Seen b
   fault_told (Bad number place) line refuses tells memory =
       let (f, is, same) = told_err number_and_place (program_of bytes) (number, place) refuses in
       rw (tells f (ap Some same)) (fault_read f is)
-  fault_told Memory line refuses tells memory = rw (memory refl) programs.no_memory
+  fault_told Memory line refuses tells memory = rw (memory refl) reading.no_memory
 
 -- what `check` refuses has a fault with its number and its place
 pub fault_of : (m : Reading TextFault Program) (fault : CheckFault) → Refuses (faults_mapped number_and_place m) (answer_of fault) →
@@ -89,19 +89,9 @@ first_of_answer o = unwrap_or o (0, None)
 
 -- a line with the number, the name and the place of a fault is the fault's
 pub line_is : (number : ℕ) (name : List ℕ) (place : Option Place) (f : TextFault) → Some (number, place) ≡ Some (number_and_place f) → name ≡ (told_as f).1 →
-    lines.refused number name (after_name place) ≡ grid_line f
+    refused_line number name (after_name place) ≡ grid_line f
 unfolding first_of_answer
 line_is number name place f e named =
     let numbered : number ≡ (told_as f).0 = ap (λ o. (first_of_answer o).0) e in
     let placed : place ≡ (told_as f).2 = ap (λ o. (first_of_answer o).1) e in
     rw (numbered, named, placed) refl
-
-pub no_program : (file : List ℕ) (most : ℕ) (before now : Shelved) (r : Result (Vec ℕ Global) Line) → FileRead file most before now r →
-    IfErr r (λ line. ProgramRead file before now (Err line))
-no_program file most before now _ (reading.had held bytes has whole over) = tt
-no_program file most before now _ (reading.unread cause) = programs.unread cause
-no_program file most before now _ reading.no_memory = programs.no_memory
-
--- the program of a file, whatever else becomes of the shelf
-pub program_stays : (file : List ℕ) (before mid now : Shelved) (P : Program) → ProgramRead file before mid (Ok P) → ProgramRead file before now (Ok P)
-program_stays file before mid now P (programs.program text _ has is weighs) = programs.program text P has is weighs

@@ -1,5 +1,5 @@
 -- What a report says, from what `eval` ensures of it; and an outcome that is told behind other lines.
-use Rattle.std.proofs.Common.{◌≡◌, ◌≤◌, ◌<◌, ◌+◌, ℕ, List, ◌++◌, length, take, [], Option, Some, None, refl, sym, ap, ◌∙◌, subst, inl, inr, arith}
+use Rattle.std.proofs.Common.{◌≡◌, ◌≤◌, ◌+◌, ℕ, List, ◌++◌, length, take, Option, Some, None, refl, sym, ap, ◌∙◌, subst, inl, inr, arith}
 use Rattle.std.specs.Prelude.{IfSome, option_map, Result, Ok, Err}
 use Rattle.std.proofs.lemmas.Bool.{cases_lt}
 use Rattle.std.proofs.lemmas.List.{length-append, take-append-le}
@@ -16,13 +16,12 @@ use Rattle.codex_top.specs.declared.line.Line.{Line}
 use Rattle.codex_top.specs.declared.line.Line.TheVariants.{WriteFault, NoMemory}
 use Rattle.codex_top.specs.declared.end.Finish.{Finish}
 use Rattle.codex_top.specs.Endings.{End}
-use Rattle.codex_top.specs.Outside.{Shelved, Stream, Received}
-use Rattle.codex_top.specs.ProgramFiles.{ProgramRead}
+use Rattle.codex_top.specs.Outside.{Stream, Received}
 use Rattle.codex_top.specs.Sending.{IsSent}
 use Rattle.codex_top.specs.Sending as sending
 use Rattle.codex_top.specs.Evaluating.{finish_of, IsSpent, IsMeantWithin, IsPrinted, OutcomeEnds}
 use Rattle.codex_top.specs.Evaluating as evaluating
-use Rattle.codex_top.specs.TraceCommand.{trace_lines, TraceEnds}
+use Rattle.codex_top.specs.TraceCommand.{trace_lines, EventsTold}
 use Rattle.codex_top.specs.TraceCommand as traces
 use Rattle.codex_top.specs.inner.Reports.{outcome_at, IsReportedAt, IsReportedIf}
 use Rattle.codex_top.proofs.Pieces.{written_after, received_none}
@@ -93,21 +92,21 @@ printed_part lines text before now _ (evaluating.sent _ (sending.cut k le receiv
 printed_part lines text before now _ (evaluating.no_memory k le received) =
     evaluating.no_memory k (omega (arith, le, length-append lines text)) (subst (λ bytes. Received bytes before now) (sym (take-append-le k lines text le)) received)
 
-module _ (file : List ℕ) (picks : Choice) (events : ℕ) (shelf_before shelf_now : Shelved) (P : Program) (read : ProgramRead file shelf_before shelf_now (Ok P)) where
+module _ (picks : Choice) (events : ℕ) (P : Program) where
   -- all lines were written, and then the outcome was told
   pub traced : (before mid now : Stream) (end : End) → before.faults ≤ mid.faults → Received (trace_lines P picks events) before mid →
-      OutcomeEnds events P mid now end → TraceEnds file picks events shelf_before shelf_now before now end
+      OutcomeEnds events P mid now end → EventsTold P picks events before now end
   traced before mid now _ later lines (evaluating.spent spent same) =
-      traces.spent P (Ok tt) read spent (evaluating.sent (Ok tt) (sending.sent (subst (λ (s : Stream). Received (trace_lines P picks events) before s) (sym same) lines)))
+      traces.spent (Ok tt) spent (evaluating.sent (Ok tt) (sending.sent (subst (λ (s : Stream). Received (trace_lines P picks events) before s) (sym same) lines)))
   traced before mid now _ later lines (evaluating.told r printed within text) =
-      traces.told P r printed read within (printed_behind (trace_lines P picks events) (text_of P r.outcome) before mid now printed later lines text)
+      traces.told r printed within (printed_behind (trace_lines P picks events) (text_of P r.outcome) before mid now printed later lines text)
 
   -- the lines were cut short
   pub trace_cut : (report : Report) (o : Option OutcomeKept) → IsReportedIf events P report o → (before now : Stream) (l : Line) →
-      IsPrinted (trace_lines P picks events) before now (Err l) → TraceEnds file picks events shelf_before shelf_now before now (Err l)
-  trace_cut report None spent before now l cut = traces.spent P (Err l) read spent cut
+      IsPrinted (trace_lines P picks events) before now (Err l) → EventsTold P picks events before now (Err l)
+  trace_cut report None spent before now l cut = traces.spent (Err l) spent cut
   trace_cut report (Some at) is before now l cut =
-      traces.told P is.meaning (Err l) read is.within (printed_part (trace_lines P picks events) (text_of P is.meaning.outcome) before now l cut)
+      traces.told is.meaning (Err l) is.within (printed_part (trace_lines P picks events) (text_of P is.meaning.outcome) before now l cut)
 
 -- nothing of a text was written, or a part of it that ends with a piece
 pub wanted_before : (text : List ℕ) (s : Stream) → IsPrinted text s s (Err NoMemory)

@@ -1,9 +1,6 @@
--- Sessions of a scroll whose input never fails, and files that are read one after the other.
-use Rattle.std.proofs.Common.{◌≡◌, ◌≤◌, ◌+◌, ◌^◌, ◌-◌, ℕ, List, min, Option, Some, None, refl, sym, ap, ◌∙◌, subst, inl, inr, arith}
-use Rattle.std.specs.Prelude.{Result, Ok, Err, Vec}
-use Rattle.std.specs.declared.alloc.Global.{Global}
+-- Sessions of a scroll whose input never fails.
+use Rattle.std.proofs.Common.{◌≡◌, ℕ, List, Some, refl, sym, subst, arith}
 use Rattle.umix_base.specs.Causes.{Rose}
-use Rattle.umix_base.specs.Files.{Lacks}
 use Rattle.umix_base.specs.declared.limits.Limits.{Limits}
 use Rattle.umix_base.specs.declared.source.Source as source
 use Rattle.umix_base.specs.declared.sink.Sink as sink
@@ -12,44 +9,15 @@ use Rattle.um_word.specs.Rule.{Identifiers, none_made}
 use Rattle.um_machine.specs.MachineView.{MachineView, state_of, machine_of}
 use Rattle.um_machine.specs.Outside.{MayRest}
 use Rattle.um_machine.specs.Runs.{seen_by}
-use Rattle.um_machine.proofs.Rests.{rose_later}
 use Rattle.um_machine.specs.declared.stop.Stop.{Stop}
 use Rattle.um_machine.specs.declared.stop.Stop.TheVariants as stop
 use Rattle.um_debug.specs.declared.debugger.DebugEnd.{DebugEnd}
 use Rattle.um_debug.specs.Debugging.{EndsBy, Fails, Debugs, Debugged}
 use Rattle.um_debug.specs.Debugging as debugging
 use Rattle.um_debug.specs.Session.{Session, fresh}
-use Rattle.codex_top.specs.declared.line.Line.{Line}
-use Rattle.codex_top.specs.DebugCommand.{InputRead, SessionSits}
+use Rattle.codex_top.specs.DebugCommand.{SessionSits}
 use Rattle.codex_top.specs.Limits.{limits, most_lines}
-use Rattle.codex_top.specs.DebugCommand as sessions
-use Rattle.codex_top.specs.Outside.{Shelved, MayHave, streams}
-use Rattle.codex_top.specs.ReadFiles.{ScrollRead, FileRead, IsUnreadable}
-use Rattle.codex_top.specs.ReadFiles as reading
-
-unreadable_since : (file : List ℕ) (before mid now : Shelved) → mid.files ≡ before.files → before.read_faults ≤ mid.read_faults →
-    IsUnreadable file mid now → IsUnreadable file before now
-unreadable_since file before mid now files later (inl rose) = inl (rose_later before.read_faults mid.read_faults now.read_faults later rose)
-unreadable_since file before mid now files later (inr lacks) = inr (subst (λ held. Lacks held file) files lacks)
-
--- a scroll that was read before another file
-pub scroll_stays : (file : List ℕ) (before mid now : Shelved) (words : Vec ℕ Global) → ScrollRead file before mid (Ok words) → ScrollRead file before now (Ok words)
-scroll_stays file before mid now words (reading.words _ small has few) = reading.words words small has few
-
--- an input that was read after another file
-pub input_since : (file : List ℕ) (before mid now : Shelved) (r : Result (Vec ℕ Global) Line) → mid.files ≡ before.files → before.read_faults ≤ mid.read_faults →
-    InputRead file mid now r → InputRead file before now r
-input_since file before mid now _ files later (sessions.bytes bytes has few) =
-    sessions.bytes bytes (subst (λ held. MayHave held file bytes.items) files has) few
-input_since file before mid now _ files later (sessions.too_long held has many) =
-    sessions.too_long held (subst (λ told. MayHave told file held) files has) many
-input_since file before mid now _ files later (sessions.unread cause) = sessions.unread (unreadable_since file before mid now files later cause)
-input_since file before mid now _ files later sessions.no_memory = sessions.no_memory
-
--- what a read says of an input of which there are no bytes
-pub no_input_of : (file : List ℕ) (most : ℕ) (before now : Shelved) (line : Line) → FileRead file most before now (Err line) → InputRead file before now (Err line)
-no_input_of file most before now _ (reading.unread cause) = sessions.unread cause
-no_input_of file most before now _ reading.no_memory = sessions.no_memory
+use Rattle.codex_top.specs.Outside.{streams}
 
 module _ (input output : Type 0) (sure : input → ⊥) where
   ends_surely : (why : Stop) (end : DebugEnd) → EndsBy input output why end → EndsBy ⊥ output why end

@@ -1,5 +1,5 @@
 -- The modules of the instances, and the lines of the events, from event to event.
-use Rattle.std.proofs.Common.{◌≡◌, ℕ, ◌+◌, ◌<◌, zero, suc, true, false, List, [], ◌∷◌, ◌++◌, length, take, map, get_or, Option, Some, None, refl, sym, ap, ◌∙◌, subst, add-one, inl, inr, arith}
+use Rattle.std.proofs.Common.{◌≡◌, ℕ, ◌+◌, ◌<◌, zero, suc, true, List, [], ◌∷◌, ◌++◌, length, take, get_or, Option, Some, None, refl, sym, ap, ◌∙◌, subst, add-one, inl, inr, arith}
 use Rattle.std.specs.Prelude.{slice_set, slice_index, slice_index_or}
 use Rattle.std.specs.Option.{option_map, option_and_then}
 use Rattle.std.proofs.Math.Seq.{map-set_same, get_or-append_seam}
@@ -8,7 +8,7 @@ use Rattle.std.proofs.lemmas.Bool.{and_parts}
 use Rattle.std.proofs.lemmas.Option.{slice_get_within}
 use Rattle.two_d.specs.Good.{IsGood}
 use Rattle.two_d.specs.Meaning.{Inputs, Outcome, Effect, Done, Starts, quiet, effect_of, inputs_of, act, mean}
-use Rattle.two_d.specs.Programs.{BoxForm, Program, find, module_at, box_at, box_count}
+use Rattle.two_d.specs.Programs.{BoxForm, Program, module_at, box_at, box_count}
 use Rattle.two_d.specs.Trees.{Form, send, case, split, call}
 use Rattle.two_d.specs.Steps.{Instance, Table, Event, Fire, End, nobody, instance_at, is_live, is_ready, wires, start, begun, set_cell, end_of, step, after, deliver, EachReady, Choice, events_of}
 use Rattle.two_d.proofs.Firing.{CanFire, can_fire-ready, step-fire}

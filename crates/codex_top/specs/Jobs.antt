@@ -1,4 +1,5 @@
 -- The program's jobs as plain data.
+use Rattle.std.specs.Prelude.{ℕ, List, Option, Some, None}
 use Rattle.fire_eval.specs.Evaluation.{choice_of}
 use Rattle.codex_top.specs.declared.words.Job.{Job}
 use Rattle.codex_top.specs.declared.words.Job.TheVariants.{Check, Eval, Trace, Compile, Run, Asm, Dis, Debug}
@@ -13,3 +14,8 @@ work_of (Run file cycles) = plain.runs file.now cycles
 work_of (Asm file out) = plain.assembles file.now out.now
 work_of (Dis file) = plain.lists file.now
 work_of (Debug file input) = plain.debugs file.now input.now
+
+-- the job that the words ask for was found; or none, and they ask for none
+abbrev pub IsFound : List (List ℕ) → Option Job → Type 0
+IsFound words None = (job : plain.Job) → plain.Asks words job → ⊥
+IsFound words (Some job) = plain.Asks words (work_of job)

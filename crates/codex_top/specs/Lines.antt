@@ -5,7 +5,7 @@ use Rattle.um_machine.specs.Stops.{stop_name}
 use Rattle.codex_top.specs.declared.status.Status.{Status}
 use Rattle.codex_top.specs.declared.status.Status.TheVariants as status
 use Rattle.codex_top.specs.declared.refusal.After.{After}
-use Rattle.codex_top.specs.declared.line.TheConstants.{USAGE}
+use Rattle.codex_top.specs.declared.refusal.After.TheVariants.{Nothing, Number, At}
 use Rattle.codex_top.specs.declared.line.Limit.{Limit}
 use Rattle.codex_top.specs.declared.line.Limit.TheVariants.{ArraysFull, WordsFull}
 use Rattle.codex_top.specs.declared.line.Counted.{Counted}
@@ -13,7 +13,7 @@ use Rattle.codex_top.specs.declared.line.Counted.TheVariants.{Cycles, Events, Li
 use Rattle.codex_top.specs.declared.line.Line.{Line}
 use Rattle.codex_top.specs.declared.line.Line.TheVariants.{Usage, Refused, Fault, Limited, Budget, ReadFault, WriteFault, NoMemory}
 use Rattle.codex_top.specs.Limits.{limits}
-use Rattle.codex_top.specs.Refusals.{refusal_pieces}
+use Rattle.codex_top.specs.RefusalView.{RefusalView}
 
 -- the name of a limit, what there would be, and the most that there may be
 abbrev pub limit_name : Limit → List ℕ
@@ -34,13 +34,25 @@ counted_name Cycles = codes "cycles"
 counted_name Events = codes "events"
 counted_name Lines = codes "lines"
 
--- the line of a refusal with this number, this name, and this after the name
-abbrev pub refused : ℕ → List ℕ → After → Line
-refused number name after = Refused (record { number = number; name = name; after = after })
+-- the line that tells how the program is used
+abbrev pub usage_pieces : List (List ℕ)
+usage_pieces =
+    codes "usage: check F | eval F [PICKS [N]] | trace F PICKS N | compile F OUT | run F [N]"
+    ∷ codes " | asm F OUT | dis F | debug F INPUT | selftest N\n" ∷ []
+
+-- the pieces of what comes after the name of a refusal, to the end of the line
+abbrev pub after_pieces : After → List (List ℕ)
+after_pieces Nothing = codes "\n" ∷ []
+after_pieces (Number count) = codes " " ∷ decimal count ∷ codes "\n" ∷ []
+after_pieces (At place) = codes " at " ∷ decimal place.row ∷ codes ":" ∷ decimal place.col ∷ codes "\n" ∷ []
+
+-- the pieces of the line of a refusal
+abbrev pub refusal_pieces : RefusalView → List (List ℕ)
+refusal_pieces r = codes "refused " ∷ decimal r.number ∷ codes " " ∷ r.name ∷ after_pieces r.after
 
 -- the pieces of a line
 abbrev pub pieces_of : Line → List (List ℕ)
-pieces_of Usage = USAGE.now ∷ []
+pieces_of Usage = usage_pieces
 pieces_of (Refused refusal) = refusal_pieces refusal
 pieces_of (Fault stop cycle) =
     codes "fault " ∷ stop_name stop ∷ codes " at cycle " ∷ decimal cycle ∷ codes "\n" ∷ []

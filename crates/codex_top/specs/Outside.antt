@@ -52,9 +52,11 @@ MayHave (Some files) name bytes = map.get files name ≡ Some bytes
 abbrev pub Received : List ℕ → Stream → Stream → Type 0
 Received bytes before now = now.bytes ≡ option_map (λ held. held ++ bytes) before.bytes
 
--- no file changed and no write failed
-abbrev pub IsOnlyRead : Shelved → Shelved → Type 0
-IsOnlyRead before now = (now.files ≡ before.files) × (now.write_faults ≡ before.write_faults)
+-- what reads leave of a shelf: no file changed, no write failed, and no fewer reads had
+pub record IsOnlyRead (before now : Shelved) : Type 0 where
+  pub files : now.files ≡ before.files
+  pub writes : now.write_faults ≡ before.write_faults
+  pub reads : before.read_faults ≤ now.read_faults
 
 -- no file changed, no write to one failed, and no input was taken
 abbrev pub IsOnlyWritten : Outside → Outside → Type 0

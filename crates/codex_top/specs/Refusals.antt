@@ -1,20 +1,52 @@
--- Why a file of a command is refused, and how it is told.
-use Rattle.std.specs.Prelude.{ℕ, List, [], ◌∷◌, codes, decimal}
+-- The refusals: the number and the name of each fault of a file, and what is told after the name.
+use Rattle.std.specs.Prelude.{ℕ, Option, Some, None, List, codes}
+use Rattle.umix_base.specs.declared.place.Place.{Place}
+use Rattle.um_asm.specs.declared.fault.AsmFault.{AsmFault}
+use Rattle.um_asm.specs.declared.fault.AsmFault.TheVariants as asm
+use Rattle.um_word.specs.declared.scroll.ScrollFault.{ScrollFault}
+use Rattle.um_word.specs.declared.scroll.ScrollFault.TheVariants as scrolls
+use Rattle.two_d.specs.Faults.{TextFault, told_as}
 use Rattle.codex_top.specs.declared.refusal.After.{After}
 use Rattle.codex_top.specs.declared.refusal.After.TheVariants.{Nothing, Number, At}
+use Rattle.codex_top.specs.declared.line.Line.{Line}
+use Rattle.codex_top.specs.declared.line.Line.TheVariants.{Refused, NoMemory}
 
--- a refusal: its number, its name, and what comes after the name
-pub record RefusalView : Type 0 where
-  pub number : ℕ
-  pub name : List ℕ
-  pub after : After
+-- the line of a refusal with this number, this name, and this after the name
+abbrev pub refused : ℕ → List ℕ → After → Line
+refused number name after = Refused (record { number = number; name = name; after = after })
 
--- the pieces of what comes after the name, to the end of the line
-abbrev pub after_pieces : After → List (List ℕ)
-after_pieces Nothing = codes "\n" ∷ []
-after_pieces (Number count) = codes " " ∷ decimal count ∷ codes "\n" ∷ []
-after_pieces (At place) = codes " at " ∷ decimal place.row ∷ codes ":" ∷ decimal place.col ∷ codes "\n" ∷ []
+-- 1 to 24, a grid: its fault's number and name, and its place where it has one
+abbrev pub after_name : Option Place → After
+after_name None = Nothing
+after_name (Some place) = At place
 
--- the pieces of the line of a refusal
-abbrev pub refusal_pieces : RefusalView → List (List ℕ)
-refusal_pieces r = codes "refused " ∷ decimal r.number ∷ codes " " ∷ r.name ∷ after_pieces r.after
+abbrev pub grid_line : TextFault → Line
+grid_line fault = refused (told_as fault).0 (told_as fault).1 (after_name (told_as fault).2)
+
+-- 31 and 32, a scroll: so many bytes are no words, or there are too many
+abbrev pub scroll_ragged : ℕ → Line
+scroll_ragged count = refused 31 (codes "Ragged") (Number count)
+
+abbrev pub scroll_too_long : Line
+scroll_too_long = refused 32 (codes "ScrollTooLong") Nothing
+
+abbrev pub scroll_line : ScrollFault → Line
+scroll_line (scrolls.Ragged count) = scroll_ragged count
+scroll_line (scrolls.TooLong count) = scroll_too_long
+scroll_line scrolls.Memory = NoMemory
+
+-- 41 to 46, an assembly text: the number of the line, where there is one
+abbrev pub text_line : AsmFault → Line
+text_line (asm.BadLine line) = refused 41 (codes "BadLine") (Number line)
+text_line (asm.SameLabel line) = refused 42 (codes "SameLabel") (Number line)
+text_line (asm.NoLabel line) = refused 43 (codes "NoLabel") (Number line)
+text_line (asm.ValueTooLarge line) = refused 44 (codes "ValueTooLarge") (Number line)
+text_line asm.TooLong = refused 45 (codes "TooManyWords") Nothing
+text_line asm.Memory = NoMemory
+
+abbrev pub text_too_long : Line
+text_too_long = refused 46 (codes "TextTooLong") Nothing
+
+-- 51, the input of a scroll that is debugged
+abbrev pub input_too_long : Line
+input_too_long = refused 51 (codes "InputTooLong") Nothing

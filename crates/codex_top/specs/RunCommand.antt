@@ -1,6 +1,5 @@
--- The command `run`.
-use Rattle.std.specs.Prelude.{◌≡◌, ℕ, ◌+◌, List, Vec, Ok, Err}
-use Rattle.std.specs.declared.alloc.Global.{Global}
+-- What `run` does with the words of a scroll.
+use Rattle.std.specs.Prelude.{◌≡◌, ℕ, ◌+◌, List, Ok, Err}
 use Rattle.umix_base.specs.Causes.{Rose}
 use Rattle.um_word.specs.State.{State, start_of}
 use Rattle.um_machine.specs.declared.stop.Stop.{Stop}
@@ -10,13 +9,11 @@ use Rattle.um_machine.specs.Outside.{MayRest}
 use Rattle.um_machine.specs.Runs.{RunEnds}
 use Rattle.codex_top.specs.declared.line.Counted.TheVariants.{Cycles}
 use Rattle.codex_top.specs.declared.line.Limit.TheVariants as limit
-use Rattle.codex_top.specs.declared.line.Line.{Line}
 use Rattle.codex_top.specs.declared.line.Line.TheVariants as line
 use Rattle.codex_top.specs.declared.end.Finish.TheVariants.{Done}
 use Rattle.codex_top.specs.Endings.{End}
 use Rattle.codex_top.specs.Limits.{limits}
-use Rattle.codex_top.specs.Outside.{Streams, Outside, Received}
-use Rattle.codex_top.specs.ReadFiles.{ScrollRead}
+use Rattle.codex_top.specs.Outside.{Streams, Received}
 
 -- the end of a run that had so many cycles to make and stopped after so many were made
 abbrev pub end_of_run : (cycles made : ℕ) → Stop → End
@@ -43,15 +40,7 @@ pub record ScrollRuns (words : List ℕ) (cycles : ℕ) (before now : Streams) (
   pub reads : stop ≡ ReadFault → Rose before.input.faults now.input.faults
   pub writes : stop ≡ WriteFault → Rose before.output.faults now.output.faults
 
--- how the words of a scroll end: in a run, or there was no memory for them
+-- how a run of the words of a scroll ends
 pub data ScrollEnds (words : List ℕ) (cycles : ℕ) (before now : Streams) : End → Type 0 where
-  no_memory : now ≡ before → ScrollEnds words cycles before now (Err line.NoMemory)
   ran : (t : State) (stop : Stop) → ScrollRuns words cycles before now t stop →
       ScrollEnds words cycles before now (end_of_run cycles t.cycles stop)
-
--- how `run` of a file ends: until the scroll runs, input and output are untouched
-pub data RunCommandEnds (file : List ℕ) (cycles : ℕ) (before now : Outside) : End → Type 0 where
-  unread : (line : Line) → ScrollRead file before.shelf now.shelf (Err line) → now.streams ≡ before.streams →
-      RunCommandEnds file cycles before now (Err line)
-  read : (words : Vec ℕ Global) (end : End) → ScrollRead file before.shelf now.shelf (Ok words) →
-      ScrollEnds words.items cycles before.streams now.streams end → RunCommandEnds file cycles before now end

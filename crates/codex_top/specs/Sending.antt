@@ -21,6 +21,11 @@ abbrev pub end_after : Result (Unit {0}) Line → End → End
 end_after (Ok done) whole = whole
 end_after (Err line) whole = Err line
 
+-- how a command ends that is done when its text has been sent
+pub data TextSent (text : List ℕ) (before now : Stream) : End → Type 0 where
+  ends : (sent : Result (Unit {0}) Line) → IsSent text before now sent →
+      TextSent text before now (end_after sent (Ok Done))
+
 -- The file holds the scroll of the words; or by a failed write, which was counted, it is as before or holds
 -- a beginning of the scroll; or there was no memory. Every other file is as before.
 pub data ScrollWritten (file words : List ℕ) (before now : Shelved) : End → Type 0 where

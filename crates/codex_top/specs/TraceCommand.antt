@@ -1,5 +1,5 @@
--- The command `trace`.
-use Rattle.std.specs.Prelude.{◌≡◌, ℕ, ◌+◌, List, [], ◌∷◌, ◌++◌, codes, decimal, Result, Ok, Err}
+-- What `trace` tells of an evaluation.
+use Rattle.std.specs.Prelude.{ℕ, ◌+◌, List, [], ◌∷◌, ◌++◌, codes, decimal, Result, Ok, Err}
 use Rattle.std.specs.List.{concat}
 use Rattle.two_d.specs.Programs.{Program}
 use Rattle.two_d.specs.Meaning.{Meaning}
@@ -7,10 +7,9 @@ use Rattle.two_d.specs.Texts.{name_at, text_of}
 use Rattle.two_d.specs.Steps.{Table, Event, Fire, End, Choice, instance_at, start, step, events_of}
 use Rattle.codex_top.specs.declared.line.Counted.TheVariants.{Events}
 use Rattle.codex_top.specs.declared.line.Line.{Line}
-use Rattle.codex_top.specs.declared.line.Line.TheVariants.{Budget, NoMemory}
+use Rattle.codex_top.specs.declared.line.Line.TheVariants.{Budget}
 use Rattle.codex_top.specs.Endings as endings
-use Rattle.codex_top.specs.Outside.{Shelved, Stream}
-use Rattle.codex_top.specs.ProgramFiles.{ProgramRead}
+use Rattle.codex_top.specs.Outside.{Stream}
 use Rattle.codex_top.specs.Sending.{end_after}
 use Rattle.codex_top.specs.Evaluating.{finish_of, IsMeantWithin, IsSpent, IsPrinted}
 
@@ -31,18 +30,13 @@ event_lines P T (event ∷ events) = event_line P T event ++ event_lines P (step
 abbrev pub trace_lines : Program → Choice → ℕ → List ℕ
 trace_lines P picks events = event_lines P (start P) (events_of P picks events)
 
--- How `trace` of a file ends: the output receives the lines of the events, and then the text of the program's
--- outcome, where so many events come to one.
-pub data TraceEnds (file : List ℕ) (picks : Choice) (events : ℕ) (shelf_before shelf_now : Shelved)
-    (before now : Stream) : endings.End → Type 0 where
-  unread : (line : Line) → ProgramRead file shelf_before shelf_now (Err line) → now ≡ before →
-      TraceEnds file picks events shelf_before shelf_now before now (Err line)
-  no_memory : now ≡ before → TraceEnds file picks events shelf_before shelf_now before now (Err NoMemory)
-  spent : (program : Program) (printed : Result (Unit {0}) Line) →
-      ProgramRead file shelf_before shelf_now (Ok program) → IsSpent events program →
+-- How a command ends that tells events and what they come to: the output receives the lines of the events, and
+-- then the text of the program's outcome, where so many events come to one.
+pub data EventsTold (program : Program) (picks : Choice) (events : ℕ) (before now : Stream) :
+    endings.End → Type 0 where
+  spent : (printed : Result (Unit {0}) Line) → IsSpent events program →
       IsPrinted (trace_lines program picks events) before now printed →
-      TraceEnds file picks events shelf_before shelf_now before now (end_after printed (Err (Budget events Events)))
-  told : (program : Program) (r : Meaning) (printed : Result (Unit {0}) Line) →
-      ProgramRead file shelf_before shelf_now (Ok program) → IsMeantWithin events program r →
+      EventsTold program picks events before now (end_after printed (Err (Budget events Events)))
+  told : (r : Meaning) (printed : Result (Unit {0}) Line) → IsMeantWithin events program r →
       IsPrinted (trace_lines program picks events ++ text_of program r.outcome) before now printed →
-      TraceEnds file picks events shelf_before shelf_now before now (end_after printed (Ok (finish_of r.outcome)))
+      EventsTold program picks events before now (end_after printed (Ok (finish_of r.outcome)))

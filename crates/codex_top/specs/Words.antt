@@ -39,9 +39,11 @@ pub data Asks : List (List ℕ) → Job → Type 0 where
   eval : (file : List ℕ) → Asks (codes "eval" ∷ file ∷ []) (evaluates file First most_made)
   eval_by : (file word : List ℕ) (picks : Choice) → IsPicks word picks →
       Asks (codes "eval" ∷ file ∷ word ∷ []) (evaluates file picks most_made)
-  eval_for : (file word number : List ℕ) (picks : Choice) (n : ℕ) → IsPicks word picks → IsDecimal most_made number n →
+  eval_for : (file word number : List ℕ) (picks : Choice) (n : ℕ) → IsPicks word picks →
+      IsDecimal most_made number n →
       Asks (codes "eval" ∷ file ∷ word ∷ number ∷ []) (evaluates file picks n)
-  trace : (file word number : List ℕ) (picks : Choice) (n : ℕ) → IsPicks word picks → IsDecimal most_made number n →
+  trace : (file word number : List ℕ) (picks : Choice) (n : ℕ) → IsPicks word picks →
+      IsDecimal most_made number n →
       Asks (codes "trace" ∷ file ∷ word ∷ number ∷ []) (traces file picks n)
   compile : (file out : List ℕ) → Asks (codes "compile" ∷ file ∷ out ∷ []) (compiles file out)
   run : (file : List ℕ) → Asks (codes "run" ∷ file ∷ []) (runs file most_made)

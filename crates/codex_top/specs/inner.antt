@@ -1,2 +1,3 @@
+pub mod FirstBytes
 pub mod Instances
 pub mod Reports

@@ -1,15 +1,14 @@
 //! The command `check`: checks a grid.
 
 ghost use Rattle.std.specs.Prelude.{◌≡◌, ◌≤◌};
-ghost use Rattle.umix_base.specs.Causes.{KeepsTelling};
 ghost use Rattle.two_d.specs.Weights.{weight};
-ghost use Rattle.codex_top.specs.CheckCommand.{CheckEnds, boxes_in};
+ghost use Rattle.codex_top.specs.Commands.{CheckEnds, boxes_in};
 ghost use Rattle.codex_top.specs.Limits.{most_grid_bytes};
-ghost use Rattle.codex_top.specs.Outside.{shelved, told};
+ghost use Rattle.codex_top.specs.Outside.{shelved, told, IsOnlyRead, IsStreamCounted};
 
-use crate::end::{End, Finish};
-use crate::program::read_program;
-use crate::sending::send;
+use crate::end::End;
+use crate::reading::read_program;
+use crate::sending::send_last;
 use itoa::Buffer;
 use std::alloc::Global;
 use two_d::Program;
@@ -18,22 +17,17 @@ use umix_base::{Shelf, Sink};
 /// Checks the grid in a file, and writes the numbers of its modules and boxes.
 pub fn check<F: Shelf, O: Sink>(alloc: Global, file: &str, shelf: &mut F, out: &mut O) -> End
     ensures ends { CheckEnds file.now
-        (shelved F.Shelf shelf.old)
-        (shelved F.Shelf shelf.new)
+        (shelved F.Shelf shelf.old) (shelved F.Shelf shelf.new)
         (told O.Sink out.old) (told O.Sink out.new) result }
-    ensures files { F.files shelf.new ≡ F.files shelf.old }
-    ensures reads { F.read_faults shelf.old ≤ F.read_faults shelf.new }
-    ensures writes { F.write_faults shelf.new ≡ F.write_faults shelf.old }
-    ensures tells { KeepsTelling (O.written out.old) (O.written out.new) }
-    ensures counted { O.faults out.old ≤ O.faults out.new }
+    ensures shelf { IsOnlyRead (shelved F.Shelf shelf.old) (shelved F.Shelf shelf.new) }
+    ensures counted { IsStreamCounted (told O.Sink out.old) (told O.Sink out.new) }
 {
     let program = read_program(alloc, file, shelf)?;
     let mut first = Buffer::new();
     let mut second = Buffer::new();
     let modules = first.format(program.modules().len()).as_bytes();
     let boxes = second.format(count_boxes(&program)).as_bytes();
-    send(out, &[b"ok ", modules, b" ", boxes, b"\n"])?;
-    Ok(Finish::Done)
+    send_last(out, &[b"ok ", modules, b" ", boxes, b"\n"])
 }
 
 // the number of boxes of all modules

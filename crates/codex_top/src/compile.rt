@@ -2,22 +2,19 @@
 
 ghost use Rattle.std.specs.Prelude.{ℕ, ◌^◌, ◌<◌, slice_index};
 ghost use Rattle.codex_top.specs.Outside.{shelved, IsShelfCounted};
-ghost use Rattle.codex_top.specs.CompileCommand.{CompileEnds};
+ghost use Rattle.codex_top.specs.Commands.{CompileEnds};
 
 use crate::end::End;
-use crate::file::write_scroll;
-use crate::program::read_program;
+use crate::reading::read_program;
+use crate::sending::write_scroll;
 use std::alloc::Global;
 use umix_base::Shelf;
 
 /// Compiles the program in a file, and writes the scroll of its words into another.
 pub fn compile<F: Shelf>(alloc: Global, file: &str, out: &str, shelf: &mut F) -> End
     ensures ends { CompileEnds file.now out.now
-        (shelved F.Shelf shelf.old)
-        (shelved F.Shelf shelf.new) result }
-    ensures counted { IsShelfCounted
-        (shelved F.Shelf shelf.old)
-        (shelved F.Shelf shelf.new) }
+        (shelved F.Shelf shelf.old) (shelved F.Shelf shelf.new) result }
+    ensures counted { IsShelfCounted (shelved F.Shelf shelf.old) (shelved F.Shelf shelf.new) }
 {
     let program = read_program(alloc, file, shelf)?;
     let linked = lower_link::compile(alloc, &program)?;

@@ -1,7 +1,6 @@
 //! What the commands tell of an evaluation.
 
 ghost use Rattle.std.specs.Prelude.{◌≡◌, ◌≤◌, List, IfOk};
-ghost use Rattle.umix_base.specs.Causes.{KeepsTelling};
 ghost use Rattle.codex_values.specs.Value.{Value};
 ghost use Rattle.two_d.specs.Steps.{events_of};
 ghost use Rattle.two_d.specs.Texts.{outcome_in};
@@ -9,7 +8,7 @@ ghost use Rattle.two_d.specs.Trails.{Trail};
 ghost use Rattle.fire_core.specs.Events.{events_shown};
 ghost use Rattle.fire_eval.specs.Evaluation.{choice_of, HasPicks};
 ghost use Rattle.codex_top.specs.Limits.{most_made};
-ghost use Rattle.codex_top.specs.Outside.{told};
+ghost use Rattle.codex_top.specs.Outside.{told, IsStreamCounted};
 ghost use Rattle.codex_top.specs.Evaluating.{OutcomeEnds, finish_of};
 ghost use Rattle.codex_top.specs.inner.Reports.{IsReport};
 
@@ -51,8 +50,7 @@ pub fn tell_outcome<O: Sink>(
 ) -> End
     requires { IsReport events program.now report.now }
     ensures ends { OutcomeEnds events program.now (told O.Sink out.old) (told O.Sink out.new) result }
-    ensures tells { KeepsTelling (O.written out.old) (O.written out.new) }
-    ensures later { O.faults out.old ≤ O.faults out.new }
+    ensures counted { IsStreamCounted (told O.Sink out.old) (told O.Sink out.new) }
 {
     let outcome = match report.outcome {
         Some(outcome) => outcome,

@@ -1,14 +1,14 @@
 //! The command `trace`: evaluates a program and tells each event.
 
-ghost use Rattle.std.specs.Prelude.{◌≡◌, ◌≤◌};
-ghost use Rattle.umix_base.specs.Causes.{KeepsTelling};
+ghost use Rattle.std.specs.Prelude.{◌≤◌};
 ghost use Rattle.two_d.specs.Steps.{start, EachReady};
 ghost use Rattle.fire_core.specs.Events.{event_of, events_shown};
 ghost use Rattle.fire_eval.specs.Evaluation.{choice_of, HasPicks};
 ghost use Rattle.codex_top.specs.Limits.{most_made};
 ghost use Rattle.codex_top.specs.Evaluating.{IsPrinted};
-ghost use Rattle.codex_top.specs.TraceCommand.{TraceEnds, event_lines};
-ghost use Rattle.codex_top.specs.Outside.{shelved, told};
+ghost use Rattle.codex_top.specs.Commands.{TraceEnds};
+ghost use Rattle.codex_top.specs.TraceCommand.{event_lines};
+ghost use Rattle.codex_top.specs.Outside.{shelved, told, IsOnlyRead, IsStreamCounted};
 ghost use Rattle.codex_top.specs.Sending.{IsSent};
 ghost use Rattle.codex_top.specs.inner.Instances as plain;
 ghost use Rattle.codex_top.specs.inner.Instances.{IsEventOf, IsStartedIf, event_text};
@@ -16,7 +16,7 @@ ghost use Rattle.codex_top.specs.inner.Instances.{IsEventOf, IsStartedIf, event_
 use crate::end::End;
 use crate::evaluating::{evaluate, tell_outcome};
 use crate::line::Line;
-use crate::program::read_program;
+use crate::reading::read_program;
 use crate::sending::send;
 use fire_core::Event;
 use fire_eval::Picks;
@@ -38,14 +38,10 @@ pub fn trace<F: Shelf, O: Sink>(
     requires picks { HasPicks picks.now }
     requires events { events ≤ most_made }
     ensures ends { TraceEnds file.now (choice_of picks.now) events
-        (shelved F.Shelf shelf.old)
-        (shelved F.Shelf shelf.new)
+        (shelved F.Shelf shelf.old) (shelved F.Shelf shelf.new)
         (told O.Sink out.old) (told O.Sink out.new) result }
-    ensures files { F.files shelf.new ≡ F.files shelf.old }
-    ensures reads { F.read_faults shelf.old ≤ F.read_faults shelf.new }
-    ensures writes { F.write_faults shelf.new ≡ F.write_faults shelf.old }
-    ensures tells { KeepsTelling (O.written out.old) (O.written out.new) }
-    ensures counted { O.faults out.old ≤ O.faults out.new }
+    ensures shelf { IsOnlyRead (shelved F.Shelf shelf.old) (shelved F.Shelf shelf.new) }
+    ensures counted { IsStreamCounted (told O.Sink out.old) (told O.Sink out.new) }
 {
     let program = read_program(alloc, file, shelf)?;
     let report = evaluate(alloc, &program, picks, events)?;
@@ -63,8 +59,7 @@ fn put_events<O: Sink>(
     requires { EachReady program.now (start program.now) (events_shown log.now) }
     ensures printed { IsPrinted (event_lines program.now (start program.now) (events_shown log.now))
         (told O.Sink out.old) (told O.Sink out.new) result }
-    ensures tells { KeepsTelling (O.written out.old) (O.written out.new) }
-    ensures later { O.faults out.old ≤ O.faults out.new }
+    ensures counted { IsStreamCounted (told O.Sink out.old) (told O.Sink out.new) }
 {
     let mut kinds = Vec::new(alloc);
     kinds.push(program.main())?;
@@ -88,8 +83,7 @@ fn put_event<O: Sink>(
     requires { IsEventOf program.now kinds.now (event_of event) }
     ensures sent { IsSent (event_text program.now kinds.now (event_of event))
         (told O.Sink out.old) (told O.Sink out.new) result }
-    ensures tells { KeepsTelling (O.written out.old) (O.written out.new) }
-    ensures later { O.faults out.old ≤ O.faults out.new }
+    ensures counted { IsStreamCounted (told O.Sink out.old) (told O.Sink out.new) }
 {
     let mut first = Buffer::new();
     let mut second = Buffer::new();

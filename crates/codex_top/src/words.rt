@@ -1,9 +1,8 @@
 //! What the words of the command line ask for.
 
-ghost use Rattle.std.specs.Prelude.{ℕ, List, [], ◌∷◌, map, string_bytes, IfOk, MatchOption};
-ghost use Rattle.codex_top.specs.Words.{Asks, AreJoined, IsDecimal, IsPicks};
-ghost use Rattle.codex_top.specs.Words as plain;
-ghost use Rattle.codex_top.specs.Jobs.{work_of};
+ghost use Rattle.std.specs.Prelude.{ℕ, List, [], ◌∷◌, map, codes, string_bytes, IfOk, MatchOption};
+ghost use Rattle.codex_top.specs.Words.{AreJoined, IsDecimal, IsPicks};
+ghost use Rattle.codex_top.specs.Jobs.{IsFound};
 ghost use Rattle.fire_eval.specs.Evaluation.{choice_of};
 ghost use Rattle.two_d.specs.Steps.{Choice};
 
@@ -62,136 +61,156 @@ pub enum Job<'a> {
 
 /// The job of a list of words, or `None` exactly where it asks for none.
 pub fn job_of(alloc: Global, words: &Vec<String>) -> Result<Option<Job<'_>>, Memory>
-    ensures { IfOk result (λ found. MatchOption found
-        ((job : plain.Job) → Asks (map string_bytes words.now.items) job → ⊥)
-        (λ job. Asks (map string_bytes words.now.items) (work_of job))) }
+    ensures { IfOk result (IsFound (map string_bytes words.now.items)) }
 {
-    match words.as_slice() {
-        [command, file] => Ok(job_of_two(command.as_str(), file.as_str())),
-        [command, first, second] => {
-            job_of_three(alloc, command.as_str(), first.as_str(), second.as_str())
+    let [command, rest @ ..] = words.as_slice() else {
+        return Ok(None);
+    };
+    match command.as_str() {
+        "check" => Ok(check_of(rest)),
+        "eval" => eval_of(alloc, rest),
+        "trace" => trace_of(alloc, rest),
+        "compile" => Ok(compile_of(rest)),
+        "run" => Ok(run_of(rest)),
+        "asm" => Ok(asm_of(rest)),
+        "dis" => Ok(dis_of(rest)),
+        "debug" => Ok(debug_of(rest)),
+        _ => Ok(None),
+    }
+}
+
+fn check_of(rest: &[String]) -> Option<Job<'_>>
+    ensures { IsFound (codes "check" ∷ map string_bytes rest.now) result }
+{
+    match rest {
+        [file] => Some(Job::Check {
+            file: file.as_str(),
+        }),
+        _ => None,
+    }
+}
+
+fn eval_of(alloc: Global, rest: &[String]) -> Result<Option<Job<'_>>, Memory>
+    ensures { IfOk result (IsFound (codes "eval" ∷ map string_bytes rest.now)) }
+{
+    match rest {
+        [file] => Ok(Some(Job::Eval {
+            file: file.as_str(),
+            picks: Picks::First,
+            events: MOST_MADE,
+        })),
+        [file, picks] => {
+            let Some(picks) = picks_of(alloc, picks.as_str())? else {
+                return Ok(None);
+            };
+            Ok(Some(Job::Eval {
+                file: file.as_str(),
+                picks,
+                events: MOST_MADE,
+            }))
         }
-        [command, file, picks, number] => {
-            job_of_four(
-                alloc,
-                command.as_str(),
-                file.as_str(),
-                picks.as_str(),
-                number.as_str(),
-            )
+        [file, picks, number] => {
+            let Some(events) = number_of(number.as_str(), MOST_MADE) else {
+                return Ok(None);
+            };
+            let Some(picks) = picks_of(alloc, picks.as_str())? else {
+                return Ok(None);
+            };
+            Ok(Some(Job::Eval {
+                file: file.as_str(),
+                picks,
+                events,
+            }))
         }
         _ => Ok(None),
     }
 }
 
-fn job_of_two<'a>(command: &str, file: &'a str) -> Option<Job<'a>>
-    ensures { MatchOption result ((job : plain.Job) → Asks (command.now ∷ file.now ∷ []) job → ⊥)
-        (λ job. Asks (command.now ∷ file.now ∷ []) (work_of job)) }
+fn trace_of(alloc: Global, rest: &[String]) -> Result<Option<Job<'_>>, Memory>
+    ensures { IfOk result (IsFound (codes "trace" ∷ map string_bytes rest.now)) }
 {
-    if command == "check" {
-        return Some(Job::Check { file });
+    let [file, picks, number] = rest else {
+        return Ok(None);
+    };
+    let Some(events) = number_of(number.as_str(), MOST_MADE) else {
+        return Ok(None);
+    };
+    let Some(picks) = picks_of(alloc, picks.as_str())? else {
+        return Ok(None);
+    };
+    Ok(Some(Job::Trace {
+        file: file.as_str(),
+        picks,
+        events,
+    }))
+}
+
+fn compile_of(rest: &[String]) -> Option<Job<'_>>
+    ensures { IsFound (codes "compile" ∷ map string_bytes rest.now) result }
+{
+    match rest {
+        [file, out] => Some(Job::Compile {
+            file: file.as_str(),
+            out: out.as_str(),
+        }),
+        _ => None,
     }
-    if command == "eval" {
-        return Some(Job::Eval {
-            file,
-            picks: Picks::First,
-            events: MOST_MADE,
-        });
-    }
-    if command == "run" {
-        return Some(Job::Run {
-            file,
+}
+
+fn run_of(rest: &[String]) -> Option<Job<'_>>
+    ensures { IsFound (codes "run" ∷ map string_bytes rest.now) result }
+{
+    match rest {
+        [file] => Some(Job::Run {
+            file: file.as_str(),
             cycles: MOST_MADE,
-        });
+        }),
+        [file, number] => {
+            let Some(cycles) = number_of(number.as_str(), MOST_MADE) else {
+                return None;
+            };
+            Some(Job::Run {
+                file: file.as_str(),
+                cycles,
+            })
+        }
+        _ => None,
     }
-    if command == "dis" {
-        return Some(Job::Dis { file });
-    }
-    None
 }
 
-fn job_of_three<'a>(
-    alloc: Global,
-    command: &str,
-    first: &'a str,
-    second: &'a str,
-) -> Result<Option<Job<'a>>, Memory>
-    ensures { IfOk result (λ found. MatchOption found
-        ((job : plain.Job) → Asks (command.now ∷ first.now ∷ second.now ∷ []) job → ⊥)
-        (λ job. Asks (command.now ∷ first.now ∷ second.now ∷ []) (work_of job))) }
+fn asm_of(rest: &[String]) -> Option<Job<'_>>
+    ensures { IsFound (codes "asm" ∷ map string_bytes rest.now) result }
 {
-    if command == "eval" {
-        let Some(picks) = picks_of(alloc, second)? else {
-            return Ok(None);
-        };
-        return Ok(Some(Job::Eval {
-            file: first,
-            picks,
-            events: MOST_MADE,
-        }));
+    match rest {
+        [file, out] => Some(Job::Asm {
+            file: file.as_str(),
+            out: out.as_str(),
+        }),
+        _ => None,
     }
-    if command == "compile" {
-        return Ok(Some(Job::Compile {
-            file: first,
-            out: second,
-        }));
-    }
-    if command == "run" {
-        let Some(cycles) = number_of(second, MOST_MADE) else {
-            return Ok(None);
-        };
-        return Ok(Some(Job::Run {
-            file: first,
-            cycles,
-        }));
-    }
-    if command == "asm" {
-        return Ok(Some(Job::Asm {
-            file: first,
-            out: second,
-        }));
-    }
-    if command == "debug" {
-        return Ok(Some(Job::Debug {
-            file: first,
-            input: second,
-        }));
-    }
-    Ok(None)
 }
 
-fn job_of_four<'a>(
-    alloc: Global,
-    command: &str,
-    file: &'a str,
-    picks: &str,
-    number: &str,
-) -> Result<Option<Job<'a>>, Memory>
-    ensures { IfOk result (λ found. MatchOption found
-        ((job : plain.Job) → Asks (command.now ∷ file.now ∷ picks.now ∷ number.now ∷ []) job → ⊥)
-        (λ job. Asks (command.now ∷ file.now ∷ picks.now ∷ number.now ∷ []) (work_of job))) }
+fn dis_of(rest: &[String]) -> Option<Job<'_>>
+    ensures { IsFound (codes "dis" ∷ map string_bytes rest.now) result }
 {
-    let Some(events) = number_of(number, MOST_MADE) else {
-        return Ok(None);
-    };
-    let Some(picks) = picks_of(alloc, picks)? else {
-        return Ok(None);
-    };
-    if command == "eval" {
-        return Ok(Some(Job::Eval {
-            file,
-            picks,
-            events,
-        }));
+    match rest {
+        [file] => Some(Job::Dis {
+            file: file.as_str(),
+        }),
+        _ => None,
     }
-    if command == "trace" {
-        return Ok(Some(Job::Trace {
-            file,
-            picks,
-            events,
-        }));
+}
+
+fn debug_of(rest: &[String]) -> Option<Job<'_>>
+    ensures { IsFound (codes "debug" ∷ map string_bytes rest.now) result }
+{
+    match rest {
+        [file, input] => Some(Job::Debug {
+            file: file.as_str(),
+            input: input.as_str(),
+        }),
+        _ => None,
     }
-    Ok(None)
 }
 
 // the picks that a word names, or `None` exactly where it names none

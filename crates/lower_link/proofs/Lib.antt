@@ -25,3 +25,4 @@ pub mod Joining
 pub mod Firsts
 pub mod Shares
 pub mod Compiling
+pub mod Unasked

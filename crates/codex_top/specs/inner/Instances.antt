@@ -4,7 +4,7 @@ use Rattle.std.specs.List.{concat}
 use Rattle.std.specs.Option.{option_and_then}
 use Rattle.two_d.specs.Programs.{BoxForm, Program, find, box_at}
 use Rattle.two_d.specs.Trees.{Form, send, case, split, call}
-use Rattle.two_d.specs.Steps.{Instance, Table, Event, Fire, End, instance_at}
+use Rattle.two_d.specs.Steps.{Instance, Table, Event, Fire, End}
 use Rattle.two_d.specs.Texts.{name_at, HasBox}
 
 -- the module of each instance

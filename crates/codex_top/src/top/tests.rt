@@ -1,5 +1,6 @@
 //! Worked rows of the commands, over an outside in memory.
 
+mod failures;
 mod grids;
 mod limits;
 mod loads;

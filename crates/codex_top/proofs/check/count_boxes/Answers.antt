@@ -1,4 +1,4 @@
-use Rattle.std.proofs.Common.{◌≡◌, ◌≤◌, length, sym, ap, ◌∙◌, subst, arith}
+use Rattle.std.proofs.Common.{◌≤◌, length, sym, ap, ◌∙◌, subst, arith}
 use Rattle.two_d.specs.Programs.{modules_of}
 use Rattle.two_d.specs.Weights.{weight}
 use Rattle.codex_top.specs.Limits.{most_grid_bytes}

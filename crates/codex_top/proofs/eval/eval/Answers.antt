@@ -1,7 +1,6 @@
 use Rattle.std.proofs.Common.{refl}
-use Rattle.std.specs.Prelude.{Err, Ok}
 use Rattle.std.proofs.lemmas.Result.{err_from_is_err_and}
-use Rattle.codex_top.specs.EvalCommand.{unread, no_memory, evaluated}
+use Rattle.codex_top.specs.Commands.{unread, no_memory, works}
 use Rattle.codex_top.proofs.eval.eval.Goals as goal
 
 pub returns-in_err-program-clause-ends : goal.returns-in_err-program-clause-ends
@@ -15,4 +14,4 @@ returns-in_err-report-clause-ends g c =
     rw (p.1, p.2) (no_memory refl)
 
 pub returns-clause-ends : goal.returns-clause-ends
-returns-clause-ends g c = evaluated c.in_ok-program.program c.tell_outcome.result c.in_ok-program.ensures.read c.tell_outcome.ensures.ends
+returns-clause-ends g c = works c.in_ok-program.program c.tell_outcome.result c.in_ok-program.ensures.read c.tell_outcome.ensures.ends

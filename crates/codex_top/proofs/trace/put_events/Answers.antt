@@ -1,5 +1,5 @@
-use Rattle.std.proofs.Common.{◌≡◌, ◌≤◌, ◌+◌, ℕ, [], ◌∷◌, ◌++◌, length, take, Some, None, refl, sym, ap, ◌∙◌, subst, arith}
-use Rattle.std.specs.Prelude.{Err, Ok, Vec, option_map, slice_index_or}
+use Rattle.std.proofs.Common.{◌≤◌, ℕ, [], ◌∷◌, ◌++◌, length, Some, None, refl, sym, ap, ◌∙◌, subst, arith}
+use Rattle.std.specs.Prelude.{Ok, Vec, option_map, slice_index_or}
 use Rattle.std.specs.declared.alloc.Global.{Global}
 use Rattle.std.proofs.lemmas.List.{append-nil, length-map}
 use Rattle.std.proofs.lemmas.Result.{err_from_is_err_and}
@@ -66,7 +66,7 @@ loop-event-preserved g c =
       ];
       written = written_after _ _ _ _ _ c.loop-event.invariant.written (sent_whole _ _ _ _ tt refl c.in_ok-put_event.ensures.sent)
           ∙ ap (λ bytes. option_map (λ held. held ++ bytes) (g.O.Sink.written c.args.out.now)) (sym first.lines);
-      later = omega (arith, c.loop-event.invariant.later, c.in_ok-put_event.ensures.later);
+      later = omega (arith, c.loop-event.invariant.later, c.in_ok-put_event.ensures.counted.later);
     }
 
 pub returns-clause-printed : goal.returns-clause-printed

@@ -8,7 +8,7 @@ use std::test::Fail;
 use umix_base::MemShelf;
 
 // one module, which sends the unit
-const SMALLEST: &[&str] = &[
+pub(super) const SMALLEST: &[&str] = &[
     ",...............,",
     ":main           :",
     ": *============*:",
@@ -18,7 +18,7 @@ const SMALLEST: &[&str] = &[
 ];
 
 // a module that uses one that is stuck
-const STUCK_INSIDE: &[&str] = &[
+pub(super) const STUCK_INSIDE: &[&str] = &[
     ",..........,",
     ":main      :",
     ": *=======*:",
@@ -74,7 +74,7 @@ const BROKEN: &[&str] = &[
 ];
 
 // a wire meets another at a right angle
-const BAD_TURN: &[&str] = &[",.....,", ":m |  :", "---+  :", ":  |  :", "'.....'"];
+pub(super) const BAD_TURN: &[&str] = &[",.....,", ":m |  :", "---+  :", ":  |  :", "'.....'"];
 
 // two wires come to one corner
 const MERGE: &[&str] = &[
@@ -437,7 +437,7 @@ fn evaluations(rt: HostRuntime) -> Result<(), Fail> {
     Ok(())
 }
 
-const FIVE_EVENTS: &str =
+pub(super) const FIVE_EVENTS: &str =
     "fire 0 main 1\nfire 0 main 2\nfire 1 plus 1\nfire 1 plus 2\nfire 1 plus 4\n";
 
 #[test]

@@ -6,9 +6,9 @@ use std::process::Abort;
 use std::test::Fail;
 use umix_base::{MemShelf, MemSink, MemSource};
 
-const COMMANDS: &[u8] = b"s 1\nr\nf\nc 9\nx\nq\n";
+pub(super) const COMMANDS: &[u8] = b"s 1\nr\nf\nc 9\nx\nq\n";
 
-const REPLIES: &str =
+pub(super) const REPLIES: &str =
     "stopped cycles 1 finger 1\n00000041 00000000 00000000 00000000 00000000 00000000 00000000 00000000\nfinger 1 cycles 1 arrays 0 words 3 next out r0\nAhalted cycles 3\n?\n";
 
 /// A session on a scroll in the file `f`, with the input in the file `i`, if it is there.
