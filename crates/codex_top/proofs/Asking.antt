@@ -103,4 +103,6 @@ is_allowed _ _ (plain.eval_for file word number picks n names writes) = (picks_s
 is_allowed _ _ (plain.trace file word number picks n names writes) = (picks_some word picks names, writes.small)
 is_allowed _ _ (plain.run file) = omega arith
 is_allowed _ _ (plain.run_for file number n writes) = writes.small
+is_allowed _ _ (plain.save file number out n writes) = writes.small
+is_allowed _ _ (plain.resume file number n writes) = writes.small
 is_allowed _ _ _ = tt

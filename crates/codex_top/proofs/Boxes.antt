@@ -5,7 +5,7 @@ use Rattle.std.proofs.lemmas.List.Sums.{sum_by-cons, sum_by_more_le}
 use Rattle.two_d.specs.declared.module.Module.{Module}
 use Rattle.two_d.specs.Programs.{BoxForm, ModuleForm, box_of, module_of, modules_of}
 use Rattle.two_d.specs.Weights.{boxes_part, weight}
-use Rattle.codex_top.specs.Commands.{boxes_in}
+use Rattle.codex_top.specs.Boxes.{boxes_in}
 
 -- the boxes of modules as they are kept
 abbrev pub boxes_kept : List Module → ℕ

@@ -185,6 +185,16 @@ step_on L s i t running goes =
     (λ u. Stands u (identifiers_left s i)))) running
     ∙ ap (λ r. run_after r s i (λ u. Stands u (identifiers_left s i))) goes
 
+-- the run whose next cycle goes on
+pub next_stands : (words input : List ℕ) (made : ℕ) (at next : State) (i : Identifiers) →
+    run_on words input made ≡ Stands at i → at.halted ≡ false →
+    cycle at limits (next_identifier i) ≡ Goes next →
+    run_on words input (made + 1) ≡ Stands next (identifiers_left at i)
+next_stands words input made at next i stands running goes =
+    runs_compose next_identifier identifiers_left limits made 1 none_made (start_of words input)
+    ∙ ap (λ x. going_on x (λ t j. run_by next_identifier identifiers_left limits 1 j t)) stands
+    ∙ step_on limits at i next running goes
+
 -- a source of which nothing was taken
 same_rest : (before now : Option (List ℕ)) (input rest : List ℕ) → KeepsTelling before now →
     MayRest before input → MayRest now rest → rest ≡ input → now ≡ before
@@ -371,18 +381,6 @@ module _ (P : Program) (cycles : ℕ) (c : Call) where
 
     module _ (words : List ℕ) (blocks : List (ℕ × ℕ)) (realises : Realises P words)
         (follows : Follows P words blocks) (fits : length words ≤ limits.words) where
-      -- the cycle that the outside failed
-      next_stands : (made : ℕ) (at next : State) (i : Identifiers) →
-          run_on words input made ≡ Stands at i → at.halted ≡ false →
-          cycle at limits (next_identifier i) ≡ Goes next → run_on words input (made + 1)
-          ≡ Stands next (identifiers_left at i)
-      next_stands made at next i stands running goes =
-          runs_compose next_identifier identifiers_left limits made 1 none_made
-          (start_of words input)
-          ∙ ap (λ x. going_on x (λ t j. run_by next_identifier identifiers_left limits 1 j t))
-          stands
-          ∙ step_on limits at i next running goes
-
       early_told : (new : MachineView) (why : Stop) (end : End)
           (h : EndsEarly cycles (machine_of words limits) new (start_of words input) t why) →
           IsCutEnd headline.Output c end → t.rest ≡ h.at.rest →
@@ -398,7 +396,7 @@ module _ (P : Program) (cycles : ℕ) (c : Call) where
             | inr is ↦
                 begun_told (run_on words input cycles) (h.made + 1) h.next
                 (identifiers_left h.at new.identifiers) end
-                (subst (Realised P input (h.made + 1)) (next_stands h.made h.at h.next
+                (subst (Realised P input (h.made + 1)) (next_stands words input h.made h.at h.next
                 new.identifiers h.stands h.running h.goes)
                 (realised_by_rule P words input (h.made + 1) realises fits))
                 is same cut

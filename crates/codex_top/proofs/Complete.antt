@@ -41,7 +41,7 @@ use Rattle.codex_top.specs.declared.status.Status.TheVariants as status
 use Rattle.codex_top.specs.Calls.{Call, Has, IsOfCodex, Wrote, status_of_end}
 use Rattle.codex_top.specs.Commands.{Begins, CompiledInto, JobEnds, accepted_line}
 use Rattle.codex_top.specs.Commands as commands
-use Rattle.codex_top.specs.Completeness.{Answers, CompiledComplete, Completeness, EndsInTime, Fills, GridsComplete, IsUnfailed, ScrollsComplete}
+use Rattle.codex_top.specs.Completeness.{Answers, CompiledComplete, Completeness, EndsInTime, Fills, GridsComplete, IsUnfailed, ScrollsComplete, SelftestComplete}
 use Rattle.codex_top.specs.DebugCommand.{SessionSits, SessionEnds, end_of_session}
 use Rattle.codex_top.specs.DebugCommand as sessions
 use Rattle.codex_top.specs.Endings.{End}
@@ -53,6 +53,8 @@ use Rattle.codex_top.specs.Reading.{IsInput, IsNoInput, IsNoProgram, IsNoScroll,
 use Rattle.codex_top.specs.Reading as reading
 use Rattle.codex_top.specs.RunCommand.{ScrollRuns, ScrollEnds, end_of_run}
 use Rattle.codex_top.specs.RunCommand as runs
+use Rattle.codex_top.specs.SelftestCommand.{Found, SelftestEnds, nine_lines}
+use Rattle.codex_top.specs.SelftestCommand as selves
 use Rattle.codex_top.specs.Sending.{IsSent, ScrollWritten, TextSent, end_after}
 use Rattle.codex_top.specs.Sending as sending
 use Rattle.codex_top.specs.TraceCommand.{EventsTold, trace_lines}
@@ -60,6 +62,7 @@ use Rattle.codex_top.specs.TraceCommand as tracing
 use Rattle.codex_top.specs.Words.{Job, Asks}
 use Rattle.codex_top.specs.Words as jobs
 use Rattle.codex_top.proofs.Compiled.{AreWords, right_scroll, run_on, words_read}
+use Rattle.codex_top.proofs.Completing.{completed_by_rule}
 use Rattle.codex_top.proofs.Ended.{Ended, ended, not_read, read_as, told_done, told_so}
 use Rattle.codex_top.proofs.FileLemmas.{length-scroll}
 use Rattle.codex_top.proofs.Headlines.{is_written, one_program, right_grid}
@@ -268,34 +271,7 @@ grids = record {
       (trace_done file text P is c has unfailed events r within picks);
 }
 
--- a completed run is so with identifiers by the rule
-completed_moved : (text : List ℕ) (x : Standing Identifiers) (y : Standing (List ℕ)) →
-    SameStanding x y → Completed text y → Completed text x
-completed_moved text (Stands s i) (Stands t j) e h =
-    subst (λ u. Completed text (Stands u i)) (sym e) (record {
-      faultless = refl;
-      halted = h.halted;
-      writes = h.writes;
-    })
-completed_moved text (Stands s i) (Failed t j g) e h = absurd e
-completed_moved text (Failed s i f) (Stands t j) e h = absurd e
-completed_moved text (Failed s i f) (Failed t j g) e h = let clash : Some g ≡ None = h.faultless in
-    absurd (cc)
-
-completed_by_rule : (P : Program) (words input : List ℕ) (blocks : List (ℕ × ℕ)) (n : ℕ)
-    (r : Meaning) → Realises P words → Follows P words blocks → length words ≤ limits.words →
-    HasMeaning P r → IsAmple P (r.instances + 1) (length (text_of P r.outcome)) limits →
-    AreEnough P r n → Completed (text_of P r.outcome) (run_on words input n)
-unfolding CompletesLaw
-completed_by_rule P words input blocks n r realises follows fits has ample enough =
-    let h = rules_are_legal limits n none_made (start_of words input) (omega arith)
-    (none_made_is_orderly limits words fits) in
-    completed_moved (text_of P r.outcome) (run_on words input n)
-    (run limits n (handed_out limits n none_made (start_of words input)) (start_of words input))
-    h.same
-    (completes P words blocks realises follows r has limits ample input n
-    (handed_out limits n none_made (start_of words input)) enough h.legal)
-
+-- what was compiled runs
 module _ (P : Program) (words : List ℕ) (blocks : List (ℕ × ℕ)) (small : AreWords words)
     (few : length (scroll words) ≤ most_scroll_bytes) (realises : Realises P words)
     (follows : Follows P words blocks) (r : Meaning) (means : HasMeaning P r)
@@ -518,5 +494,34 @@ scrolls = record {
       has.scroll_there has.input_there);
 }
 
+-- `selftest`
+told_selves : (number : ℕ) (c : Call) → IsUnfailed c → (end : End) →
+    SelftestEnds number c.before.streams.output c.now.streams.output end →
+    ((found : Found number) × EndsWith c (Ok Done) (nine_lines number found) end)
+    ⊎ (end ≡ Err line.NoMemory)
+told_selves number c unfailed end (selves.told found _ sent) =
+    elim (text_sent c unfailed (nine_lines number found) end sent) [
+      | inl so ↦ inl (found, so)
+      | inr none ↦ inr none
+    ]
+told_selves number c unfailed _ (selves.no_memory same) = inr refl
+
+selftest : SelftestComplete IsOfCodex
+selftest number c call asks held unfailed =
+    let e = ended (jobs.selftests number) c call asks in
+    let is = unfailed_status c unfailed (jobs.selftests number) e in
+    elim e.ends [
+      | inl ran ↦ elim (told_selves number c unfailed e.end ran.2) [
+        | inl so ↦ inl (so.0, record { ends = is ∙ ap status_of_end so.1.0; wrote = so.1.1 })
+        | inr none ↦ inr (is ∙ ap status_of_end none)
+      ]
+      | inr none ↦ inr (is ∙ ap status_of_end none.0)
+    ]
+
 pub completeness : Completeness IsOfCodex
-completeness = record { grids = grids; compiled = compiled; scrolls = scrolls }
+completeness = record {
+  grids = grids;
+  compiled = compiled;
+  scrolls = scrolls;
+  selftest = selftest;
+}

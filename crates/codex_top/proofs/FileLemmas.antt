@@ -1,6 +1,6 @@
 -- What a file holds of which the first bytes were read, and what later reads and writes leave of that.
 use Rattle.std.proofs.Common.{◌≡◌, ◌≤◌, ◌<◌, ◌+◌, ◌*◌, ℕ, List, [], ◌∷◌, length, take, min, Option, Some, None, refl, sym, ap, ◌∙◌, subst, inl, inr, arith}
-use Rattle.std.specs.Prelude.{Result, Ok, Err, IfOk, Vec, option_map}
+use Rattle.std.specs.Prelude.{Result, Ok, Err, IfOk, Vec, option_map, is_some}
 use Rattle.std.specs.FinMap as map
 use Rattle.std.specs.Int.{w32, to_be_bytes}
 use Rattle.std.specs.declared.alloc.Global.{Global}
@@ -12,13 +12,18 @@ use Rattle.um_machine.proofs.Rests.{rose_later}
 use Rattle.um_word.specs.Scroll.{scroll, most_scroll_bytes, IsScrollFault}
 use Rattle.um_word.specs.declared.scroll.ScrollFault.{ScrollFault}
 use Rattle.um_word.specs.declared.scroll.ScrollFault.TheVariants.{TooLong, Ragged, Memory}
+use Rattle.um_machine.specs.MachineView.{MachineView}
+use Rattle.um_image.specs.Image.{HasImage, IsBadAt, most_image_bytes}
+use Rattle.um_image.specs.Refusals.{RefusesImage}
+use Rattle.um_image.specs.declared.fault.ImageFault.{ImageFault}
+use Rattle.um_image.specs.declared.fault.ImageFault.TheVariants as images
 use Rattle.codex_top.specs.declared.line.Line.{Line}
 use Rattle.codex_top.specs.Endings.{End}
-use Rattle.codex_top.specs.Outside.{Shelved, MayHave, IsOnlyRead}
-use Rattle.codex_top.specs.Reading.{IsUnreadable, ReadAs, ScrollRead}
+use Rattle.codex_top.specs.Outside.{Shelved, MayHave, IsOnlyRead, IsShelfCounted}
+use Rattle.codex_top.specs.Reading.{IsUnreadable, ReadAs, ScrollRead, ImageRead}
 use Rattle.codex_top.specs.Reading as reading
-use Rattle.codex_top.specs.Refusals.{scroll_line}
-use Rattle.codex_top.specs.Sending.{ScrollWritten}
+use Rattle.codex_top.specs.Refusals.{scroll_line, image_line}
+use Rattle.codex_top.specs.Sending.{FileWritten, ScrollWritten}
 use Rattle.codex_top.specs.Sending as sending
 use Rattle.codex_top.specs.inner.FirstBytes.{FirstRead}
 use Rattle.codex_top.proofs.Pieces.{take_whole}
@@ -104,14 +109,39 @@ files_stay name bytes None None w k = refl
 files_stay name bytes None (Some now) w k = cc
 files_stay name bytes (Some files) now w k = w
 
--- a scroll that is written after a file was read
+-- a file that is written after another was read
+pub file_after : (file bytes : List ℕ) (before mid now : Shelved) (end : End) → IsOnlyRead before mid → FileWritten file bytes mid now end →
+    FileWritten file bytes before now end
+file_after file bytes before mid now _ only (sending.written w) =
+    sending.written (subst (λ held. WritesFile file bytes held now.files (Ok tt)) only.files w)
+file_after file bytes before mid now _ only (sending.cut w rose) =
+    sending.cut (subst (λ held. WritesFile file bytes held now.files (Err shelf.Failed)) only.files w) (subst (λ n. Rose n now.write_faults) only.writes rose)
+file_after file bytes before mid now _ only (sending.no_memory same) = sending.no_memory (same ∙ only.files)
+
 pub scroll_after : (file words : List ℕ) (before mid now : Shelved) (end : End) → IsOnlyRead before mid → ScrollWritten file words mid now end →
     ScrollWritten file words before now end
-scroll_after file words before mid now _ only (sending.written w) =
-    sending.written (subst (λ held. WritesFile file (scroll words) held now.files (Ok tt)) only.files w)
-scroll_after file words before mid now _ only (sending.cut w rose) =
-    sending.cut (subst (λ held. WritesFile file (scroll words) held now.files (Err shelf.Failed)) only.files w) (subst (λ n. Rose n now.write_faults) only.writes rose)
-scroll_after file words before mid now _ only (sending.no_memory same) = sending.no_memory (same ∙ only.files)
+scroll_after file words = file_after file (scroll words)
+
+-- reads leave a shelf with counts
+pub reads_counted : (before now : Shelved) → IsOnlyRead before now → IsShelfCounted before now
+reads_counted before now only = record {
+  files = ap is_some only.files;
+  reads = only.reads;
+  writes = let same = only.writes in omega (arith, same);
+}
+
+-- bytes that are no image, in the file of which they are the first ones
+pub image_refused : (file : List ℕ) (before now : Shelved) (bytes : List ℕ) (fault : ImageFault) → Seen before.files file most_image_bytes bytes →
+    RefusesImage bytes fault → ImageRead file before now (Err (image_line fault))
+image_refused file before now bytes (images.TooLong count) s why = reading.refused s.held _ s.has (reading.too_long (s.over why.1))
+image_refused file before now bytes (images.Bad begun) s why =
+    let is : bytes ≡ s.held = sym (s.whole why.0) in
+    reading.refused s.held _ s.has (reading.bad begun (subst (λ bs. length bs ≤ most_image_bytes) is why.0) (subst (λ bs. IsBadAt bs begun) is why.1))
+image_refused file before now bytes images.Memory s why = reading.no_memory
+
+-- the machine of an image that was read
+pub image_has : (file : List ℕ) (before now : Shelved) (saved : MachineView × ℕ) → ImageRead file before now (Ok saved) → HasImage saved.0 saved.1
+image_has file before now _ (reading.holds held saved has is) = is.has
 
 -- a scroll that was read has few enough bytes
 pub scroll_fits : (file : List ℕ) (before now : Shelved) (words : Vec ℕ Global) → ScrollRead file before now (Ok words) → length (scroll words.items) ≤ most_scroll_bytes

@@ -15,7 +15,7 @@ use Rattle.codex_top.specs.Outside.{Streams}
 use Rattle.codex_top.specs.RunCommand.{end_of_run, ScrollEnds, ran}
 
 -- what went out, where it is told
-wrote_behind : (before now : Option (List ℕ)) (bytes : List ℕ) → KeepsTelling before now → ((held : List ℕ) → MayHold before held → MayHold now (held ++ bytes)) →
+pub wrote_behind : (before now : Option (List ℕ)) (bytes : List ℕ) → KeepsTelling before now → ((held : List ℕ) → MayHold before held → MayHold now (held ++ bytes)) →
     now ≡ option_map (λ held. held ++ bytes) before
 wrote_behind None None bytes k wrote = refl
 wrote_behind None (Some x) bytes k wrote = cc

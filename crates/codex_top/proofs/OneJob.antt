@@ -7,7 +7,7 @@ use Rattle.std.proofs.lemmas.List.{get_or_append_left}
 use Rattle.std.proofs.lemmas.List.Elements.{All-nil, All-cons, All-append, All-get_or}
 use Rattle.two_d.specs.Steps.{Choice, Listed}
 use Rattle.codex_top.specs.Words.{Job, Asks, IsPicks, IsDecimal, AreJoined}
-use Rattle.codex_top.specs.Limits.{most_made}
+use Rattle.codex_top.specs.Limits.{most_made, most_number}
 use Rattle.codex_top.specs.Words as plain
 use Rattle.codex_top.proofs.Asking.{pieces_of, first_small, others_small}
 
@@ -66,10 +66,10 @@ one_choice _ _ _ (plain.listed _ ns f) plain.first = absurd (no_letter (codes "f
 one_choice _ _ _ (plain.listed _ ns f) plain.last = absurd (no_letter (codes "last") ns
     (omega arith) f)
 
-one_number : (word : List ℕ) (n m : ℕ) → IsDecimal most_made word n → IsDecimal most_made word m →
-    n ≡ m
-one_number word n m f g = decimal_injective n m (omega (arith, f.small)) (omega (arith, g.small))
-    (sym f.writes ∙ g.writes)
+one_number : (most : ℕ) → most < 2 ^ 64 → (word : List ℕ) (n m : ℕ) → IsDecimal most word n →
+    IsDecimal most word m → n ≡ m
+one_number most fits word n m f g = decimal_injective n m (omega (arith, fits, f.small))
+    (omega (arith, fits, g.small)) (sym f.writes ∙ g.writes)
 
 pub one_job : (words : List (List ℕ)) (j k : Job) → Asks words j → Asks words k → j ≡ k
 one_job _ _ _ (plain.check file) (plain.check _) = refl
@@ -78,16 +78,22 @@ one_job _ _ _ (plain.eval_by file word p f) (plain.eval_by _ _ q g) =
     ap (λ picks. plain.evaluates file picks most_made) (one_choice word p q f g)
 one_job _ _ _ (plain.eval_for file word number p n f i) (plain.eval_for _ _ _ q m g j) =
     let picks = one_choice word p q f g in
-    let count = one_number number n m i j in
+    let count = one_number most_made (omega arith) number n m i j in
     rw (picks, count) refl
 one_job _ _ _ (plain.trace file word number p n f i) (plain.trace _ _ _ q m g j) =
     let picks = one_choice word p q f g in
-    let count = one_number number n m i j in
+    let count = one_number most_made (omega arith) number n m i j in
     rw (picks, count) refl
 one_job _ _ _ (plain.compile file out) (plain.compile _ _) = refl
 one_job _ _ _ (plain.run file) (plain.run _) = refl
 one_job _ _ _ (plain.run_for file number n i) (plain.run_for _ _ m j) =
-    ap (plain.runs file) (one_number number n m i j)
+    ap (plain.runs file) (one_number most_made (omega arith) number n m i j)
 one_job _ _ _ (plain.asm file out) (plain.asm _ _) = refl
 one_job _ _ _ (plain.dis file) (plain.dis _) = refl
 one_job _ _ _ (plain.debug file input) (plain.debug _ _) = refl
+one_job _ _ _ (plain.selftest number n i) (plain.selftest _ m j) =
+    ap plain.selftests (one_number most_number (omega arith) number n m i j)
+one_job _ _ _ (plain.save file number out n i) (plain.save _ _ _ m j) =
+    ap (λ cycles. plain.saves file cycles out) (one_number most_made (omega arith) number n m i j)
+one_job _ _ _ (plain.resume file number n i) (plain.resume _ _ m j) =
+    ap (plain.resumes file) (one_number most_made (omega arith) number n m i j)

@@ -23,10 +23,10 @@ use Rattle.codex_top.specs.Refusals.{refused as refused_line, after_name, grid_l
 use Rattle.codex_top.proofs.FileLemmas.{Seen}
 
 -- a fault that was told is one of the reading
-told_ok : {F G A : Type 0} (tell : F → G) (m : Reading F A) (x : A) → Told tell m (Ok x) → m (Ok x)
+pub told_ok : {F G A : Type 0} (tell : F → G) (m : Reading F A) (x : A) → Told tell m (Ok x) → m (Ok x)
 told_ok tell m x (went _ is) = is
 
-told_err : {F G A : Type 0} (tell : F → G) (m : Reading F A) (t : G) → Told tell m (Err t) → (f : F) × m (Err f) × (t ≡ tell f)
+pub told_err : {F G A : Type 0} (tell : F → G) (m : Reading F A) (t : G) → Told tell m (Err t) → (f : F) × m (Err f) × (t ≡ tell f)
 told_err tell m _ (failed f is) = (f, is, refl)
 
 -- a text with a grid isn't too long

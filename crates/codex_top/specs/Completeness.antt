@@ -22,9 +22,10 @@ use Rattle.codex_top.specs.Endings.{status_of_finish}
 use Rattle.codex_top.specs.Evaluating.{finish_of, IsMeantWithin}
 use Rattle.codex_top.specs.Limits.{limits, most_input_bytes, most_lines, most_text_bytes}
 use Rattle.codex_top.specs.Outside.{Outside}
+use Rattle.codex_top.specs.SelftestCommand.{Found, nine_lines}
 use Rattle.codex_top.specs.TraceCommand.{trace_lines}
 use Rattle.codex_top.specs.Words.{Job, assembles, checks, compiles, debugs, evaluates, lists}
-use Rattle.codex_top.specs.Words.{runs, traces}
+use Rattle.codex_top.specs.Words.{runs, selftests, traces}
 
 -- nothing outside failed: no count of faults rose
 pub record IsUnfailed (c : Call) : Type 0 where
@@ -107,7 +108,13 @@ pub record ScrollsComplete (IsCall : Call → Type 0) : Type 0 where
       UnlessNoMemory IsCall (debugs file input) (HasSession file words input bytes commands)
       (λ c. c.status ≡ Done)
 
+-- `selftest` of each number comes to its nine lines
+abbrev pub SelftestComplete : (IsCall : Call → Type 0) → Type 0
+SelftestComplete IsCall = (number : ℕ) → UnlessNoMemory IsCall (selftests number) (λ o. Unit {0})
+    (λ c. (found : Found number) × Answers Done (nine_lines number found) c)
+
 pub record Completeness (IsCall : Call → Type 0) : Type 0 where
   pub grids : GridsComplete IsCall
   pub compiled : CompiledComplete IsCall
   pub scrolls : ScrollsComplete IsCall
+  pub selftest : SelftestComplete IsCall

@@ -24,18 +24,22 @@ end_of_session ReadFault = Err line.ReadFault
 end_of_session WriteFault = Err line.WriteFault
 end_of_session Memory = Err line.NoMemory
 
--- A session on a scroll with this input, from its start, under the limits and by the rule of identifiers: the
--- commands may be taken to have been those of the source, whose rest is left; whatever the output had received,
--- the session sent its replies and what the scroll wrote behind it. The scroll's input never fails.
+-- A session on a scroll with this input, from its start, under the limits and by the rule of
+-- identifiers: the commands may be taken to have been those of the source, whose rest is left;
+-- whatever the output had received, the session sent its replies and what the scroll wrote behind
+-- it. The scroll's input never fails.
 pub record SessionSits (words input : List ℕ) (before now : Streams) (end : DebugEnd) : Type 0 where
   pub commands : List ℕ
   pub had : MayHold before.input.bytes commands
   pub rest : List ℕ
   pub left : MayHold now.input.bytes rest
   pub identifiers : Identifiers
-  pub sits : (held : List ℕ) → MayHold before.output.bytes held → (t : State) × MayHold now.output.bytes t.out
-      × Debugs limits most_lines commands rest (fresh (record (start_of words input) { out = held }) none_made)
-      (Rose before.input.faults now.input.faults) ⊥ (Rose before.output.faults now.output.faults) identifiers t end
+  pub sits : (held : List ℕ) → MayHold before.output.bytes held →
+      (t : State) × MayHold now.output.bytes t.out
+      × Debugs limits most_lines commands rest
+      (fresh (record (start_of words input) { out = held }) none_made)
+      (Rose before.input.faults now.input.faults) ⊥
+      (Rose before.output.faults now.output.faults) identifiers t end
 
 -- how a session on the words of a scroll with an input ends
 pub data SessionEnds (words input : List ℕ) (before now : Streams) : End → Type 0 where

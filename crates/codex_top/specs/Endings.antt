@@ -18,11 +18,13 @@ abbrev pub status_of_finish : Finish → Status
 status_of_finish Done = status.Done
 status_of_finish Stuck = status.Stuck
 
--- What `err` has received and the status, by the end: nothing where there is no line; just the line and
--- its status; or, where the line couldn't be written, a beginning of it and WriteFault.
+-- What `err` has received and the status, by the end: nothing where there is no line; just the line
+-- and its status; or, where the line couldn't be written, a beginning of it and WriteFault.
 pub data IsTold (before now : Stream) : End → Status → Type 0 where
-  silent : (finish : Finish) → now ≡ before → IsTold before now (Ok finish) (status_of_finish finish)
+  silent : (finish : Finish) → now ≡ before →
+      IsTold before now (Ok finish) (status_of_finish finish)
   whole : (line : Line) → Received (line_text line) before now → before.faults ≤ now.faults →
       IsTold before now (Err line) (status_of line)
-  cut : (line : Line) (k : ℕ) → k ≤ length (line_text line) → Received (take k (line_text line)) before now →
-      Rose before.faults now.faults → IsTold before now (Err line) status.WriteFault
+  cut : (line : Line) (k : ℕ) → k ≤ length (line_text line) →
+      Received (take k (line_text line)) before now → Rose before.faults now.faults →
+      IsTold before now (Err line) status.WriteFault

@@ -27,15 +27,19 @@ pub record IsMeantWithin (events : ℕ) (P : Program) (r : Meaning) : Type 0 whe
 abbrev pub IsSpent : (events : ℕ) → Program → Type 0
 IsSpent events P = (r : Meaning) → HasMeaning P r → events < r.firings + r.instances
 
--- The output has received the text, by calls that take memory; or for want of it a beginning of the text.
+-- The output has received the text, by calls that take memory; or for want of it a beginning of the
+-- text.
 pub data IsPrinted (text : List ℕ) (before now : Stream) : Result (Unit {0}) Line → Type 0 where
-  sent : (sent : Result (Unit {0}) Line) → IsSent text before now sent → IsPrinted text before now sent
-  no_memory : (k : ℕ) → k ≤ length text → Received (take k text) before now → IsPrinted text before now (Err NoMemory)
+  sent : (sent : Result (Unit {0}) Line) → IsSent text before now sent →
+      IsPrinted text before now sent
+  no_memory : (k : ℕ) → k ≤ length text → Received (take k text) before now →
+      IsPrinted text before now (Err NoMemory)
 
--- How a command ends that tells what so many events come to: the output receives the text of the program's
--- outcome; or nothing, where they don't come to one.
+-- How a command ends that tells what so many events come to: the output receives the text of the
+-- program's outcome; or nothing, where they don't come to one.
 pub data OutcomeEnds (events : ℕ) (P : Program) (before now : Stream) : End → Type 0 where
-  spent : IsSpent events P → now ≡ before → OutcomeEnds events P before now (Err (Budget events Events))
+  spent : IsSpent events P → now ≡ before →
+      OutcomeEnds events P before now (Err (Budget events Events))
   told : (r : Meaning) (printed : Result (Unit {0}) Line) → IsMeantWithin events P r →
       IsPrinted (text_of P r.outcome) before now printed →
       OutcomeEnds events P before now (end_after printed (Ok (finish_of r.outcome)))

@@ -13,6 +13,10 @@ pub mod Evaluating
 pub mod TraceCommand
 pub mod RunCommand
 pub mod DebugCommand
+pub mod Boxes
+pub mod SelftestCommand
+pub mod SaveCommand
+pub mod ResumeCommand
 pub mod Commands
 pub mod Calls
 pub mod Headline

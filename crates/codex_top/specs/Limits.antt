@@ -1,15 +1,19 @@
 -- The limits of the program.
-use Rattle.std.specs.Prelude.{ℕ, ◌^◌}
+use Rattle.std.specs.Prelude.{ℕ, ◌^◌, ◌-◌}
 use Rattle.umix_base.specs.declared.limits.Limits.{Limits}
-use Rattle.array_store.specs.StoreView.{most_live_arrays, most_live_words}
+use Rattle.array_store.specs.StoreView.{most_limits}
 
 -- the most arrays and words of a machine, of every run
 abbrev pub limits : Limits
-limits = record { arrays = most_live_arrays; words = most_live_words }
+limits = most_limits
 
 -- the most cycles or events of one command, and their number where none is given
 abbrev pub most_made : ℕ
 most_made = 2 ^ 62
+
+-- the most that the number of a generated grid may be
+abbrev pub most_number : ℕ
+most_number = 2 ^ 64 - 1
 
 -- the most bytes of an assembly text, enough for every listing
 abbrev pub most_text_bytes : ℕ

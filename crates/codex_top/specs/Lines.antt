@@ -38,13 +38,14 @@ counted_name Lines = codes "lines"
 abbrev pub usage_pieces : List (List ℕ)
 usage_pieces =
     codes "usage: check F | eval F [PICKS [N]] | trace F PICKS N | compile F OUT | run F [N]"
-    ∷ codes " | asm F OUT | dis F | debug F INPUT | selftest N\n" ∷ []
+    ∷ codes " | asm F OUT | dis F | debug F INPUT | selftest N | save F N OUT | resume F N\n" ∷ []
 
 -- the pieces of what comes after the name of a refusal, to the end of the line
 abbrev pub after_pieces : After → List (List ℕ)
 after_pieces Nothing = codes "\n" ∷ []
 after_pieces (Number count) = codes " " ∷ decimal count ∷ codes "\n" ∷ []
-after_pieces (At place) = codes " at " ∷ decimal place.row ∷ codes ":" ∷ decimal place.col ∷ codes "\n" ∷ []
+after_pieces (At place) =
+    codes " at " ∷ decimal place.row ∷ codes ":" ∷ decimal place.col ∷ codes "\n" ∷ []
 
 -- the pieces of the line of a refusal
 abbrev pub refusal_pieces : RefusalView → List (List ℕ)

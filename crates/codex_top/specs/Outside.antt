@@ -29,7 +29,8 @@ pub record Outside : Type 0 where
 
 -- a shelf, a source and a sink as contracts see them
 abbrev pub shelved : {F : Type 0} → shelf.Ghosts F → F → Shelved
-shelved f s = record { files = f.files s; read_faults = f.read_faults s; write_faults = f.write_faults s }
+shelved f s =
+    record { files = f.files s; read_faults = f.read_faults s; write_faults = f.write_faults s }
 
 abbrev pub heard : {I : Type 0} → source.Ghosts I → I → Stream
 heard i input = record { bytes = i.rest input; faults = i.faults input }
@@ -40,8 +41,10 @@ told o out = record { bytes = o.written out; faults = o.faults out }
 abbrev pub streams : {I O : Type 0} → source.Ghosts I → sink.Ghosts O → I → O → Streams
 streams i o input out = record { input = heard i input; output = told o out }
 
-abbrev pub outside : {F I O : Type 0} → shelf.Ghosts F → source.Ghosts I → sink.Ghosts O → F → I → O → Outside
-outside f i o shelf input out = record { shelf = shelved f shelf; streams = streams i o input out }
+abbrev pub outside : {F I O : Type 0} → shelf.Ghosts F → source.Ghosts I → sink.Ghosts O →
+    F → I → O → Outside
+outside f i o shelf input out =
+    record { shelf = shelved f shelf; streams = streams i o input out }
 
 -- a shelf may be taken to have this file with these bytes: where it tells its files, it has
 abbrev pub MayHave : Option Files → List ℕ → List ℕ → Type 0
@@ -60,7 +63,8 @@ pub record IsOnlyRead (before now : Shelved) : Type 0 where
 
 -- no file changed, no write to one failed, and no input was taken
 abbrev pub IsOnlyWritten : Outside → Outside → Type 0
-IsOnlyWritten before now = IsOnlyRead before.shelf now.shelf × (now.streams.input ≡ before.streams.input)
+IsOnlyWritten before now =
+    IsOnlyRead before.shelf now.shelf × (now.streams.input ≡ before.streams.input)
 
 -- No count of faults fell, and nothing began or ceased to tell what it holds.
 pub record IsShelfCounted (before now : Shelved) : Type 0 where

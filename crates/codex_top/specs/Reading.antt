@@ -6,6 +6,8 @@ use Rattle.umix_base.specs.Files.{Lacks}
 use Rattle.um_asm.specs.declared.fault.AsmFault.{AsmFault}
 use Rattle.um_asm.specs.Assembly.{assembled}
 use Rattle.um_word.specs.Scroll.{most_scroll_bytes, scroll}
+use Rattle.um_machine.specs.MachineView.{MachineView}
+use Rattle.um_image.specs.Image.{HasImage, image_of, most_image_bytes, IsBadAt}
 use Rattle.two_d.specs.Faults.{TextFault}
 use Rattle.two_d.specs.Program.{program_of}
 use Rattle.two_d.specs.Programs.{Program}
@@ -20,8 +22,8 @@ use Rattle.codex_top.specs.Refusals as refusals
 abbrev pub IsUnreadable : List ℕ → Shelved → Shelved → Type 0
 IsUnreadable file before now = Rose before.read_faults now.read_faults ⊎ Lacks before.files file
 
--- What a file is read as: what its bytes are; or the line of what is wrong with them; or the line that tells
--- why there are none.
+-- What a file is read as: what its bytes are; or the line of what is wrong with them; or the line
+-- that tells why there are none.
 pub data ReadAs {A : Type 0} (Is : List ℕ → A → Type 0) (IsWrong : List ℕ → Line → Type 0)
     (file : List ℕ) (before now : Shelved) : Result A Line → Type 0 where
   holds : (bytes : List ℕ) (it : A) → MayHave before.files file bytes → Is bytes it →
@@ -37,7 +39,8 @@ pub record IsProgram (text : List ℕ) (program : Program) : Type 0 where
   pub weighs : weight program ≤ length text
 
 pub data IsNoProgram (text : List ℕ) : Line → Type 0 where
-  faulty : (fault : TextFault) → program_of text (Err fault) → IsNoProgram text (refusals.grid_line fault)
+  faulty : (fault : TextFault) → program_of text (Err fault) →
+      IsNoProgram text (refusals.grid_line fault)
 
 -- a scroll: the bytes are those of these words of 32 bits; or they are too many, or no words
 pub record IsScroll (bytes : List ℕ) (words : Vec ℕ Global) : Type 0 where
@@ -68,6 +71,17 @@ pub record IsInput (held : List ℕ) (bytes : Vec ℕ Global) : Type 0 where
 pub data IsNoInput (held : List ℕ) : Line → Type 0 where
   too_long : most_input_bytes < length held → IsNoInput held refusals.input_too_long
 
+-- an image: the bytes are that of this machine, which has taken so many bytes of its input; or they
+-- are too many, or no image
+pub record IsImageOf (bytes : List ℕ) (saved : MachineView × ℕ) : Type 0 where
+  pub has : HasImage saved.0 saved.1
+  pub same : image_of saved.0 saved.1 ≡ bytes
+
+pub data IsNoImage (bytes : List ℕ) : Line → Type 0 where
+  too_long : most_image_bytes < length bytes → IsNoImage bytes refusals.image_too_long
+  bad : (begun : ℕ) → length bytes ≤ most_image_bytes → IsBadAt bytes begun →
+      IsNoImage bytes (refusals.image_bad begun)
+
 -- what a command's file is read as
 abbrev pub ProgramRead : (file : List ℕ) (before now : Shelved) → Result Program Line → Type 0
 ProgramRead = ReadAs IsProgram IsNoProgram
@@ -80,3 +94,7 @@ TextRead = ReadAs IsText IsNoText
 
 abbrev pub InputRead : (file : List ℕ) (before now : Shelved) → Result (Vec ℕ Global) Line → Type 0
 InputRead = ReadAs IsInput IsNoInput
+
+abbrev pub ImageRead :
+    (file : List ℕ) (before now : Shelved) → Result (MachineView × ℕ) Line → Type 0
+ImageRead = ReadAs IsImageOf IsNoImage

@@ -5,6 +5,8 @@ use Rattle.um_asm.specs.declared.fault.AsmFault.{AsmFault}
 use Rattle.um_asm.specs.declared.fault.AsmFault.TheVariants as asm
 use Rattle.um_word.specs.declared.scroll.ScrollFault.{ScrollFault}
 use Rattle.um_word.specs.declared.scroll.ScrollFault.TheVariants as scrolls
+use Rattle.um_image.specs.declared.fault.ImageFault.{ImageFault}
+use Rattle.um_image.specs.declared.fault.ImageFault.TheVariants as images
 use Rattle.two_d.specs.Faults.{TextFault, told_as}
 use Rattle.codex_top.specs.declared.refusal.After.{After}
 use Rattle.codex_top.specs.declared.refusal.After.TheVariants.{Nothing, Number, At}
@@ -50,3 +52,15 @@ text_too_long = refused 46 (codes "TextTooLong") Nothing
 -- 51, the input of a scroll that is debugged
 abbrev pub input_too_long : Line
 input_too_long = refused 51 (codes "InputTooLong") Nothing
+
+-- 81 and 82, an image: there are too many bytes; or they are none, and so many of them begin one
+abbrev pub image_too_long : Line
+image_too_long = refused 81 (codes "ImageTooLong") Nothing
+
+abbrev pub image_bad : ℕ → Line
+image_bad begun = refused 82 (codes "BadImage") (Number begun)
+
+abbrev pub image_line : ImageFault → Line
+image_line (images.TooLong count) = image_too_long
+image_line (images.Bad begun) = image_bad begun
+image_line images.Memory = NoMemory

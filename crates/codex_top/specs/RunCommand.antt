@@ -26,11 +26,11 @@ end_of_run cycles made (ArraysFull count) = Err (line.Limited (limit.ArraysFull 
 end_of_run cycles made (WordsFull count) = Err (line.Limited (limit.WordsFull count) (made + 1))
 end_of_run cycles made stop = Err (line.Fault stop (made + 1))
 
--- The scroll was run from its start, under the limits and by the rule of identifiers, and stopped in the state t:
--- its input may be taken to be that of the source, whose rest is left; what the run wrote went out; and where
--- the outside failed, its count rose.
-pub record ScrollRuns (words : List ℕ) (cycles : ℕ) (before now : Streams) (t : State) (stop : Stop) :
-    Type 0 where
+-- The scroll was run from its start, under the limits and by the rule of identifiers, and stopped
+-- in the state t: its input may be taken to be that of the source, whose rest is left; what the run
+-- wrote went out; and where the outside failed, its count rose.
+pub record ScrollRuns (words : List ℕ) (cycles : ℕ) (before now : Streams) (t : State)
+    (stop : Stop) : Type 0 where
   pub input : List ℕ
   pub had : MayRest before.input.bytes input
   pub machine : MachineView

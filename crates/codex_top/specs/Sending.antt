@@ -13,8 +13,8 @@ use Rattle.codex_top.specs.Outside.{Shelved, Stream, Received}
 -- The output has received the text; or by a failed write, which was counted, a beginning of it.
 pub data IsSent (text : List ℕ) (before now : Stream) : Result (Unit {0}) Line → Type 0 where
   sent : Received text before now → IsSent text before now (Ok tt)
-  cut : (k : ℕ) → k ≤ length text → Received (take k text) before now → Rose before.faults now.faults →
-      IsSent text before now (Err WriteFault)
+  cut : (k : ℕ) → k ≤ length text → Received (take k text) before now →
+      Rose before.faults now.faults → IsSent text before now (Err WriteFault)
 
 -- the end of a command whose text was sent so, and which ends so where all of it went out
 abbrev pub end_after : Result (Unit {0}) Line → End → End
@@ -26,11 +26,15 @@ pub data TextSent (text : List ℕ) (before now : Stream) : End → Type 0 where
   ends : (sent : Result (Unit {0}) Line) → IsSent text before now sent →
       TextSent text before now (end_after sent (Ok Done))
 
--- The file holds the scroll of the words; or by a failed write, which was counted, it is as before or holds
--- a beginning of the scroll; or there was no memory. Every other file is as before.
-pub data ScrollWritten (file words : List ℕ) (before now : Shelved) : End → Type 0 where
-  written : WritesFile file (scroll words) before.files now.files (Ok tt) →
-      ScrollWritten file words before now (Ok Done)
-  cut : WritesFile file (scroll words) before.files now.files (Err shelf.Failed) →
-      Rose before.write_faults now.write_faults → ScrollWritten file words before now (Err WriteFault)
-  no_memory : now.files ≡ before.files → ScrollWritten file words before now (Err NoMemory)
+-- The file holds the bytes; or by a failed write, which was counted, it is as before or holds a
+-- beginning of them; or there was no memory. Every other file is as before.
+pub data FileWritten (file bytes : List ℕ) (before now : Shelved) : End → Type 0 where
+  written : WritesFile file bytes before.files now.files (Ok tt) →
+      FileWritten file bytes before now (Ok Done)
+  cut : WritesFile file bytes before.files now.files (Err shelf.Failed) →
+      Rose before.write_faults now.write_faults → FileWritten file bytes before now (Err WriteFault)
+  no_memory : now.files ≡ before.files → FileWritten file bytes before now (Err NoMemory)
+
+-- so it is with the scroll of the words
+abbrev pub ScrollWritten : (file words : List ℕ) (before now : Shelved) → End → Type 0
+ScrollWritten file words = FileWritten file (scroll words)

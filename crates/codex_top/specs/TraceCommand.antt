@@ -13,8 +13,8 @@ use Rattle.codex_top.specs.Outside.{Stream}
 use Rattle.codex_top.specs.Sending.{end_after}
 use Rattle.codex_top.specs.Evaluating.{finish_of, IsMeantWithin, IsSpent, IsPrinted}
 
--- the line of an event: the instance by its number from 0, and of a firing the name of its module and the box by
--- its number from 1
+-- the line of an event: the instance by its number from 0, and of a firing the name of its module
+-- and the box by its number from 1
 abbrev pub event_line : Program → Table → Event → List ℕ
 event_line P T (Fire i b) =
     concat (codes "fire " ∷ decimal i ∷ codes " " ∷ name_at P (instance_at T i).kind ∷ codes " "
@@ -30,8 +30,8 @@ event_lines P T (event ∷ events) = event_line P T event ++ event_lines P (step
 abbrev pub trace_lines : Program → Choice → ℕ → List ℕ
 trace_lines P picks events = event_lines P (start P) (events_of P picks events)
 
--- How a command ends that tells events and what they come to: the output receives the lines of the events, and
--- then the text of the program's outcome, where so many events come to one.
+-- How a command ends that tells events and what they come to: the output receives the lines of the
+-- events, and then the text of the program's outcome, where so many events come to one.
 pub data EventsTold (program : Program) (picks : Choice) (events : ℕ) (before now : Stream) :
     endings.End → Type 0 where
   spent : (printed : Result (Unit {0}) Line) → IsSpent events program →

@@ -3,9 +3,10 @@ use Rattle.std.specs.Prelude.{◌≡◌, ◌≢◌, ℕ, ◌^◌, ◌<◌, ◌�
 use Rattle.std.specs.List.{join_with_byte}
 use Rattle.std.specs.Str.{byte}
 use Rattle.two_d.specs.Steps.{Choice, First, Last, Listed}
-use Rattle.codex_top.specs.Limits.{most_made}
+use Rattle.codex_top.specs.Limits.{most_made, most_number}
 
--- a job: what the program is to do with which files, by which picks, and at most how often
+-- a job: what the program is to do with which files, by which picks, and at most how often; or the number of the
+-- grid that it is to make
 pub data Job : Type 0 where
   checks : (file : List ℕ) → Job
   evaluates : (file : List ℕ) (picks : Choice) (events : ℕ) → Job
@@ -15,6 +16,9 @@ pub data Job : Type 0 where
   assembles : (file out : List ℕ) → Job
   lists : (file : List ℕ) → Job
   debugs : (file input : List ℕ) → Job
+  selftests : (number : ℕ) → Job
+  saves : (file : List ℕ) (cycles : ℕ) (out : List ℕ) → Job
+  resumes : (file : List ℕ) (cycles : ℕ) → Job
 
 -- the word writes this number in decimal, and it is at most `most`
 pub record IsDecimal (most : ℕ) (word : List ℕ) (n : ℕ) : Type 0 where
@@ -52,6 +56,12 @@ pub data Asks : List (List ℕ) → Job → Type 0 where
   asm : (file out : List ℕ) → Asks (codes "asm" ∷ file ∷ out ∷ []) (assembles file out)
   dis : (file : List ℕ) → Asks (codes "dis" ∷ file ∷ []) (lists file)
   debug : (file input : List ℕ) → Asks (codes "debug" ∷ file ∷ input ∷ []) (debugs file input)
+  selftest : (number : List ℕ) (n : ℕ) → IsDecimal most_number number n →
+      Asks (codes "selftest" ∷ number ∷ []) (selftests n)
+  save : (file number out : List ℕ) (n : ℕ) → IsDecimal most_made number n →
+      Asks (codes "save" ∷ file ∷ number ∷ out ∷ []) (saves file n out)
+  resume : (file number : List ℕ) (n : ℕ) → IsDecimal most_made number n →
+      Asks (codes "resume" ∷ file ∷ number ∷ []) (resumes file n)
 
 -- some picks come next, whichever events are ready
 abbrev pub PicksSome : Choice → Type 0
@@ -63,4 +73,6 @@ abbrev pub IsAllowed : Job → Type 0
 IsAllowed (evaluates file picks events) = PicksSome picks × (events ≤ most_made)
 IsAllowed (traces file picks events) = PicksSome picks × (events ≤ most_made)
 IsAllowed (runs file cycles) = cycles ≤ most_made
+IsAllowed (saves file cycles out) = cycles ≤ most_made
+IsAllowed (resumes file cycles) = cycles ≤ most_made
 IsAllowed job = Unit {0}

@@ -1,3 +1,4 @@
 pub mod FirstBytes
 pub mod Instances
 pub mod Reports
+pub mod Selftests

@@ -2,7 +2,8 @@
 
 ghost use Rattle.std.specs.Prelude.{◌≡◌, ◌≤◌};
 ghost use Rattle.two_d.specs.Weights.{weight};
-ghost use Rattle.codex_top.specs.Commands.{CheckEnds, boxes_in};
+ghost use Rattle.codex_top.specs.Boxes.{boxes_in};
+ghost use Rattle.codex_top.specs.Commands.{CheckEnds};
 ghost use Rattle.codex_top.specs.Limits.{most_grid_bytes};
 ghost use Rattle.codex_top.specs.Outside.{shelved, told, IsOnlyRead, IsStreamCounted};
 
@@ -30,8 +31,8 @@ pub fn check<F: Shelf, O: Sink>(alloc: Global, file: &str, shelf: &mut F, out: &
     send_last(out, &[b"ok ", modules, b" ", boxes, b"\n"])
 }
 
-// the number of boxes of all modules
-fn count_boxes(program: &Program) -> usize
+/// The number of boxes of all modules.
+pub fn count_boxes(program: &Program) -> usize
     requires { weight program.now ≤ most_grid_bytes }
     ensures { result ≡ boxes_in program.now }
 {

@@ -16,8 +16,8 @@ use umix_base::{Shelf, Sink, Source, SureSource};
 /// The most command lines of one session.
 pub const MOST_LINES: u64 = 1_000_000;
 
-/// Debugs the scroll in a file, whose input is another file: takes command lines, and writes replies and what the
-/// scroll writes.
+/// Debugs the scroll in a file, whose input is another file: takes command lines, and writes
+/// replies and what the scroll writes.
 pub fn debug<F: Shelf, I: Source, O: Sink>(
     alloc: Global,
     file: &str,

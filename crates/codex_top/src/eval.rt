@@ -13,7 +13,8 @@ use fire_eval::Picks;
 use std::alloc::Global;
 use umix_base::{Shelf, Sink};
 
-/// Evaluates the program in a file by these picks, for so many events at most, and writes its outcome's text.
+/// Evaluates the program in a file by these picks, for so many events at most, and writes its
+/// outcome's text.
 pub fn eval<F: Shelf, O: Sink>(
     alloc: Global,
     file: &str,

@@ -49,7 +49,8 @@ pub fn tell_outcome<O: Sink>(
     out: &mut O,
 ) -> End
     requires { IsReport events program.now report.now }
-    ensures ends { OutcomeEnds events program.now (told O.Sink out.old) (told O.Sink out.new) result }
+    ensures ends { OutcomeEnds events program.now
+        (told O.Sink out.old) (told O.Sink out.new) result }
     ensures counted { IsStreamCounted (told O.Sink out.old) (told O.Sink out.new) }
 {
     let outcome = match report.outcome {
@@ -72,7 +73,8 @@ pub fn tell_outcome<O: Sink>(
 
 // how a command ends that has told an outcome
 fn finish(outcome: Outcome) -> Finish
-    ensures { (values : List Value) (trails : List Trail) → result ≡ finish_of (outcome_in values trails outcome) }
+    ensures { (values : List Value) (trails : List Trail) →
+        result ≡ finish_of (outcome_in values trails outcome) }
 {
     match outcome {
         Outcome::Value(_) => Finish::Done,

@@ -3,7 +3,8 @@
 ghost use Rattle.std.specs.Prelude.{◌≡◌};
 ghost use Rattle.umix_base.specs.Causes.{HasCause, KeepsTelling};
 ghost use Rattle.umix_base.specs.Streams.{Appends};
-ghost use Rattle.codex_top.specs.Lines.{line_text, limit_name, limit_count, limit_number, counted_name, status_of};
+ghost use Rattle.codex_top.specs.Lines.{line_text, limit_name, limit_count, limit_number};
+ghost use Rattle.codex_top.specs.Lines.{counted_name, status_of};
 
 use crate::Status;
 use crate::refusal::{After, Refusal};
@@ -116,14 +117,17 @@ impl Counted {
     }
 }
 
-/// The line that tells how the program is used.
-pub const USAGE: &[u8] =
-    b"usage: check F | eval F [PICKS [N]] | trace F PICKS N | compile F OUT | run F [N] | asm F OUT | dis F | debug F INPUT | selftest N\n";
+/// The pieces of the line that tells how the program is used.
+const USAGE: &[&[u8]] = &[
+    b"usage: check F | eval F [PICKS [N]] | trace F PICKS N | compile F OUT | run F [N]",
+    b" | asm F OUT | dis F | debug F INPUT | selftest N | save F N OUT | resume F N\n",
+];
 
 impl Line {
     /// The line of a refusal with this number, this name, and this after the name.
     pub fn refused(number: u8, name: &'static str, after: After) -> Line
-        ensures { result ≡ Line.Refused (record { number = number; name = name.now; after = after }) }
+        ensures { result
+            ≡ Line.Refused (record { number = number; name = name.now; after = after }) }
     {
         Line::Refused(Refusal::new(number, name, after))
     }
@@ -146,12 +150,13 @@ impl Line {
 
     /// Writes the line, with its LF. After `Failed` a beginning of it was written. Takes no memory.
     pub fn put<E: Sink>(&self, err: &mut E) -> Result<(), Failed>
-        ensures appended { Appends (line_text self.now) (E.written err.old) (E.written err.new) result }
+        ensures appended { Appends (line_text self.now)
+            (E.written err.old) (E.written err.new) result }
         ensures tells { KeepsTelling (E.written err.old) (E.written err.new) }
         ensures cause { HasCause (E.faults err.old) (E.faults err.new) result }
     {
         match self {
-            Line::Usage => put_all(err, &[USAGE]),
+            Line::Usage => put_all(err, USAGE),
             Line::Refused(refusal) => refusal.put(err),
             Line::Fault(stop, cycle) => put_fault(err, stop, *cycle),
             Line::Limited(limit, cycle) => put_limit(err, limit, *cycle),

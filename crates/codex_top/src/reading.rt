@@ -4,7 +4,7 @@ ghost use Rattle.std.specs.Prelude.{◌≤◌, ◌+◌, ◌<◌, ◌^◌, IfOk};
 ghost use Rattle.two_d.specs.Weights.{weight};
 ghost use Rattle.codex_top.specs.Limits.{most_grid_bytes};
 ghost use Rattle.codex_top.specs.Outside.{shelved, IsOnlyRead};
-ghost use Rattle.codex_top.specs.Reading.{ProgramRead, ScrollRead, TextRead, InputRead};
+ghost use Rattle.codex_top.specs.Reading.{ProgramRead, ScrollRead, TextRead, InputRead, ImageRead};
 ghost use Rattle.codex_top.specs.inner.FirstBytes.{FirstRead};
 
 use crate::line::Line;
@@ -13,6 +13,8 @@ use module_table::check;
 use std::alloc::Global;
 use two_d::Program;
 use um_asm::assemble;
+use um_image::{MOST_IMAGE_BYTES, read_image};
+use um_machine::Machine;
 use um_word::{MOST_SCROLL_BYTES, words_of};
 use umix_base::{Shelf, ShelfFault};
 
@@ -27,7 +29,8 @@ pub const MOST_INPUT_BYTES: usize = 67_108_864;
 
 /// The program of a file that is a grid, or the line that tells why there is none.
 pub fn read_program<F: Shelf>(alloc: Global, file: &str, shelf: &mut F) -> Result<Program, Line>
-    ensures read { ProgramRead file.now (shelved F.Shelf shelf.old) (shelved F.Shelf shelf.new) result }
+    ensures read { ProgramRead file.now
+        (shelved F.Shelf shelf.old) (shelved F.Shelf shelf.new) result }
     ensures weighs { IfOk result (λ program. weight program ≤ most_grid_bytes) }
     ensures shelf { IsOnlyRead (shelved F.Shelf shelf.old) (shelved F.Shelf shelf.new) }
 {
@@ -40,7 +43,8 @@ pub fn read_program<F: Shelf>(alloc: Global, file: &str, shelf: &mut F) -> Resul
 
 /// The words of a file that is a scroll, or the line that tells why there are none.
 pub fn read_scroll<F: Shelf>(alloc: Global, file: &str, shelf: &mut F) -> Result<Vec<u32>, Line>
-    ensures read { ScrollRead file.now (shelved F.Shelf shelf.old) (shelved F.Shelf shelf.new) result }
+    ensures read { ScrollRead file.now
+        (shelved F.Shelf shelf.old) (shelved F.Shelf shelf.new) result }
     ensures shelf { IsOnlyRead (shelved F.Shelf shelf.old) (shelved F.Shelf shelf.new) }
 {
     let bytes = read_file(alloc, file, MOST_SCROLL_BYTES, shelf)?;
@@ -49,7 +53,8 @@ pub fn read_scroll<F: Shelf>(alloc: Global, file: &str, shelf: &mut F) -> Result
 
 /// The words of the assembly text in a file, or the line that tells why there are none.
 pub fn read_text<F: Shelf>(alloc: Global, file: &str, shelf: &mut F) -> Result<Vec<u32>, Line>
-    ensures read { TextRead file.now (shelved F.Shelf shelf.old) (shelved F.Shelf shelf.new) result }
+    ensures read { TextRead file.now
+        (shelved F.Shelf shelf.old) (shelved F.Shelf shelf.new) result }
     ensures shelf { IsOnlyRead (shelved F.Shelf shelf.old) (shelved F.Shelf shelf.new) }
 {
     let text = read_file(alloc, file, MOST_TEXT_BYTES, shelf)?;
@@ -61,7 +66,8 @@ pub fn read_text<F: Shelf>(alloc: Global, file: &str, shelf: &mut F) -> Result<V
 
 /// The bytes of a file that is a scroll's input, or the line that tells why there are none.
 pub fn read_input<F: Shelf>(alloc: Global, file: &str, shelf: &mut F) -> Result<Vec<u8>, Line>
-    ensures read { InputRead file.now (shelved F.Shelf shelf.old) (shelved F.Shelf shelf.new) result }
+    ensures read { InputRead file.now
+        (shelved F.Shelf shelf.old) (shelved F.Shelf shelf.new) result }
     ensures shelf { IsOnlyRead (shelved F.Shelf shelf.old) (shelved F.Shelf shelf.new) }
 {
     let bytes = read_file(alloc, file, MOST_INPUT_BYTES, shelf)?;
@@ -69,6 +75,20 @@ pub fn read_input<F: Shelf>(alloc: Global, file: &str, shelf: &mut F) -> Result<
         return Err(input_too_long());
     }
     Ok(bytes)
+}
+
+/// The machine of a file that is an image, and how many bytes of its input it has taken, or the line
+/// that tells why there is none.
+pub fn read_saved<F: Shelf>(
+    alloc: Global,
+    file: &str,
+    shelf: &mut F,
+) -> Result<(Machine, u64), Line>
+    ensures read { ImageRead file.now (shelved F.Shelf shelf.old) (shelved F.Shelf shelf.new) result }
+    ensures shelf { IsOnlyRead (shelved F.Shelf shelf.old) (shelved F.Shelf shelf.new) }
+{
+    let bytes = read_file(alloc, file, MOST_IMAGE_BYTES, shelf)?;
+    Ok(read_image(alloc, &bytes)?)
 }
 
 // the bytes of a file, of which at most one more than `most` is read, or the line that tells why there are none
@@ -79,7 +99,8 @@ fn read_file<F: Shelf>(
     shelf: &mut F,
 ) -> Result<Vec<u8>, Line>
     requires { most + 1 < 2 ^ 64 }
-    ensures read { FirstRead most file.now (shelved F.Shelf shelf.old) (shelved F.Shelf shelf.new) result }
+    ensures read { FirstRead most file.now
+        (shelved F.Shelf shelf.old) (shelved F.Shelf shelf.new) result }
     ensures shelf { IsOnlyRead (shelved F.Shelf shelf.old) (shelved F.Shelf shelf.new) }
 {
     match shelf.read(alloc, file, most + 1) {

@@ -16,6 +16,7 @@ use itoa::Buffer;
 use module_table::CheckFault;
 use std::marker::Model;
 use um_asm::AsmFault;
+use um_image::ImageFault;
 use um_word::ScrollFault;
 use umix_base::{Failed, Place, Sink};
 
@@ -112,8 +113,10 @@ impl Refusal {
 
 /// The line of a grid's fault: from 1 to 24.
 pub fn grid_line(fault: CheckFault) -> Line
-    requires { MatchOption (answer_of fault) ⊤ (λ told. (f : TextFault) × (number_and_place f ≡ told)) }
-    ensures told { (f : TextFault) → answer_of fault ≡ Some (number_and_place f) → result ≡ plain.grid_line f }
+    requires { MatchOption (answer_of fault) ⊤
+        (λ told. (f : TextFault) × (number_and_place f ≡ told)) }
+    ensures told { (f : TextFault) → answer_of fault ≡ Some (number_and_place f) →
+        result ≡ plain.grid_line f }
     ensures no_memory { fault ≡ CheckFault.Memory → result ≡ Line.NoMemory }
 {
     match &fault {
@@ -155,6 +158,21 @@ impl From<AsmFault> for Line {
             }
             AsmFault::TooLong => Line::refused(45, "TooManyWords", After::Nothing),
             AsmFault::Memory => Line::NoMemory,
+        }
+    }
+}
+
+/// The line of what is wrong with an image: 81 or 82.
+impl From<ImageFault> for Line {
+    ghost use Rattle.codex_top.specs.Refusals.{image_line};
+
+    ghost from_gives = { λ fault line. line ≡ image_line fault };
+
+    fn from(fault: ImageFault) -> Line {
+        match fault {
+            ImageFault::TooLong(_) => Line::refused(81, "ImageTooLong", After::Nothing),
+            ImageFault::Bad(begun) => Line::refused(82, "BadImage", After::Number(begun)),
+            ImageFault::Memory => Line::NoMemory,
         }
     }
 }

@@ -38,8 +38,9 @@ pub fn run<F: Shelf, I: Source, O: Sink>(
     end_of(cycles, machine.cycles(), stop)
 }
 
-// the end of a run that had so many cycles to make and stopped after so many were made
-fn end_of(cycles: u64, made: u64, stop: Stop) -> End
+/// The end of a run that had so many cycles to make and stopped after so many were made, counted from
+/// the scroll's start.
+pub fn end_of(cycles: u64, made: u64, stop: Stop) -> End
     requires { made + 1 < 2 ^ 64 }
     ensures { result ≡ end_of_run cycles made stop }
 {

@@ -1,10 +1,10 @@
-//! What commands write: bytes that go out piece by piece, and scrolls.
+//! What commands write: bytes that go out piece by piece, and files.
 
 ghost use Rattle.std.specs.List.{flat_map};
 ghost use Rattle.umix_base.specs.Causes.{HasCause, KeepsTelling};
 ghost use Rattle.umix_base.specs.Streams.{Appends};
 ghost use Rattle.codex_top.specs.Outside.{shelved, told, IsShelfCounted, IsStreamCounted};
-ghost use Rattle.codex_top.specs.Sending.{IsSent, ScrollWritten, TextSent};
+ghost use Rattle.codex_top.specs.Sending.{FileWritten, IsSent, ScrollWritten, TextSent};
 
 use crate::end::{End, Finish};
 use crate::line::Line;
@@ -28,7 +28,8 @@ pub fn put_all<S: Sink>(sink: &mut S, pieces: &[&[u8]]) -> Result<(), Failed>
     Ok(())
 }
 
-/// Writes the pieces to the output, in order, or tells that they couldn't be written. Takes no memory.
+/// Writes the pieces to the output, in order, or tells that they couldn't be written. Takes no
+/// memory.
 pub fn send<S: Sink>(sink: &mut S, pieces: &[&[u8]]) -> Result<(), Line>
     ensures sent { IsSent (flat_map (λ piece. piece.now) pieces.now)
         (told S.Sink sink.old) (told S.Sink sink.new) result }
@@ -57,7 +58,16 @@ pub fn write_scroll<F: Shelf>(alloc: Global, file: &str, words: &[u32], shelf: &
     ensures counted { IsShelfCounted (shelved F.Shelf shelf.old) (shelved F.Shelf shelf.new) }
 {
     let scroll = bytes_of(alloc, words)?;
-    match shelf.write(alloc, file, &scroll) {
+    write_file(alloc, file, &scroll, shelf)
+}
+
+/// Writes the bytes into a file.
+pub fn write_file<F: Shelf>(alloc: Global, file: &str, bytes: &[u8], shelf: &mut F) -> End
+    ensures ends { FileWritten file.now bytes.now
+        (shelved F.Shelf shelf.old) (shelved F.Shelf shelf.new) result }
+    ensures counted { IsShelfCounted (shelved F.Shelf shelf.old) (shelved F.Shelf shelf.new) }
+{
+    match shelf.write(alloc, file, bytes) {
         Ok(()) => Ok(Finish::Done),
         Err(ShelfFault::Failed) => Err(Line::WriteFault),
         Err(ShelfFault::Memory) => Err(Line::NoMemory),

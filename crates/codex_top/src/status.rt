@@ -29,7 +29,8 @@ pub enum Status {
 }
 
 impl Status {
-    /// The number with which the program ends, from 0 to 9. Takes no memory. See "Statuses" in docs/COMMANDS.md.
+    /// The number with which the program ends, from 0 to 9. Takes no memory. See "Statuses" in
+    /// docs/COMMANDS.md.
     pub fn number(self) -> u8
         ensures { result ≡ number_of self }
     {

@@ -18,16 +18,19 @@ use crate::dis::dis;
 use crate::end::End;
 use crate::eval::eval;
 use crate::line::Line;
+use crate::resume::resume;
 use crate::run::run;
+use crate::save::save;
+use crate::selftest::selftest;
 use crate::trace::trace;
 use crate::words::{Job, job_of};
 use std::alloc::Global;
 use umix_base::{Shelf, Sink, Source};
 
-/// Does what the words of a command line ask for, without the program's name: reads and writes files on
-/// the shelf, takes input, writes output, and writes on `err` just the line of the status, or nothing where
-/// the status has none. If writing the line fails, `err` has received a beginning of it and the status is
-/// `WriteFault`. See docs/COMMANDS.md.
+/// Does what the words of a command line ask for, without the program's name: reads and writes
+/// files on the shelf, takes input, writes output, and writes on `err` just the line of the status,
+/// or nothing where the status has none. If writing the line fails, `err` has received a beginning
+/// of it and the status is `WriteFault`. See docs/COMMANDS.md.
 pub fn codex<F: Shelf, I: Source, O: Sink, E: Sink>(
     alloc: Global,
     words: &Vec<String>,
@@ -107,6 +110,13 @@ fn work<F: Shelf, I: Source, O: Sink>(
         Job::Asm { file, out } => asm(alloc, file, out, shelf),
         Job::Dis { file } => dis(alloc, file, shelf, out),
         Job::Debug { file, input: bytes } => debug(alloc, file, bytes, shelf, input, out),
+        Job::Selftest { number } => selftest(alloc, number, out),
+        Job::Save {
+            file,
+            cycles,
+            out: image,
+        } => save(alloc, file, cycles, image, shelf, input, out),
+        Job::Resume { file, cycles } => resume(alloc, file, cycles, shelf, input, out),
     }
 }
 

@@ -25,8 +25,8 @@ use std::alloc::Global;
 use two_d::{Command, Program};
 use umix_base::{Shelf, Sink};
 
-/// Evaluates the program in a file by these picks, for so many events at most, and writes a line for each event
-/// and then its outcome's text.
+/// Evaluates the program in a file by these picks, for so many events at most, and writes a line
+/// for each event and then its outcome's text.
 pub fn trace<F: Shelf, O: Sink>(
     alloc: Global,
     file: &str,
@@ -105,7 +105,8 @@ fn put_event<O: Sink>(
 // the module of the instance that an event starts, if it starts one
 fn started(program: &Program, kinds: &[usize], event: Event) -> Option<usize>
     requires { IsEventOf program.now kinds.now (event_of event) }
-    ensures { IsStartedIf program.now (plain.started program.now kinds.now (event_of event)) result }
+    ensures { IsStartedIf program.now
+        (plain.started program.now kinds.now (event_of event)) result }
 {
     let Event::Fire(instance, bx) = event else {
         return None;

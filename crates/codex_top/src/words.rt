@@ -57,6 +57,22 @@ pub enum Job<'a> {
         file: &'a str,
         input: &'a str,
     },
+    /// To make the grid of this number, and to find what comes of it.
+    Selftest {
+        number: u64,
+    },
+    /// To run the scroll in `file` for so many cycles at most, and to write the image of its machine
+    /// into the file `out`.
+    Save {
+        file: &'a str,
+        cycles: u64,
+        out: &'a str,
+    },
+    /// To run the machine of the image in this file for so many cycles more at most.
+    Resume {
+        file: &'a str,
+        cycles: u64,
+    },
 }
 
 /// The job of a list of words, or `None` exactly where it asks for none.
@@ -75,6 +91,9 @@ pub fn job_of(alloc: Global, words: &Vec<String>) -> Result<Option<Job<'_>>, Mem
         "asm" => Ok(asm_of(rest)),
         "dis" => Ok(dis_of(rest)),
         "debug" => Ok(debug_of(rest)),
+        "selftest" => Ok(selftest_of(rest)),
+        "save" => Ok(save_of(rest)),
+        "resume" => Ok(resume_of(rest)),
         _ => Ok(None),
     }
 }
@@ -213,6 +232,49 @@ fn debug_of(rest: &[String]) -> Option<Job<'_>>
     }
 }
 
+fn selftest_of(rest: &[String]) -> Option<Job<'_>>
+    ensures { IsFound (codes "selftest" ∷ map string_bytes rest.now) result }
+{
+    let [word] = rest else {
+        return None;
+    };
+    let Some(number) = number_of(word.as_str(), u64::MAX) else {
+        return None;
+    };
+    Some(Job::Selftest { number })
+}
+
+fn save_of(rest: &[String]) -> Option<Job<'_>>
+    ensures { IsFound (codes "save" ∷ map string_bytes rest.now) result }
+{
+    let [file, number, out] = rest else {
+        return None;
+    };
+    let Some(cycles) = number_of(number.as_str(), MOST_MADE) else {
+        return None;
+    };
+    Some(Job::Save {
+        file: file.as_str(),
+        cycles,
+        out: out.as_str(),
+    })
+}
+
+fn resume_of(rest: &[String]) -> Option<Job<'_>>
+    ensures { IsFound (codes "resume" ∷ map string_bytes rest.now) result }
+{
+    let [file, number] = rest else {
+        return None;
+    };
+    let Some(cycles) = number_of(number.as_str(), MOST_MADE) else {
+        return None;
+    };
+    Some(Job::Resume {
+        file: file.as_str(),
+        cycles,
+    })
+}
+
 // the picks that a word names, or `None` exactly where it names none
 fn picks_of(alloc: Global, word: &str) -> Result<Option<Picks>, Memory>
     ensures { IfOk result (λ found. MatchOption found
@@ -247,9 +309,11 @@ fn numbers_of(alloc: Global, word: &str) -> Result<Option<Vec<u32>>, Memory>
     Ok(Some(numbers))
 }
 
-// the number that a word writes in decimal, if it is at most this, or `None` exactly where it writes none
+// the number that a word writes in decimal, if it is at most this, or `None` exactly where it
+// writes none
 fn number_of(word: &str, most: u64) -> Option<u64>
-    ensures { MatchOption result ((n : ℕ) → IsDecimal most word.now n → ⊥) (IsDecimal most word.now) }
+    ensures { MatchOption result
+        ((n : ℕ) → IsDecimal most word.now n → ⊥) (IsDecimal most word.now) }
 {
     let Ok(number) = word.parse::<u64>() else {
         return None;

@@ -13,5 +13,6 @@ AreFirst most held bytes = bytes.items ≡ take (most + 1) held
 abbrev pub IsNeverWrong : List ℕ → Line → Type 0
 IsNeverWrong held line = ⊥
 
-abbrev pub FirstRead : (most : ℕ) (file : List ℕ) (before now : Shelved) → Result (Vec ℕ Global) Line → Type 0
+abbrev pub FirstRead : (most : ℕ) (file : List ℕ) (before now : Shelved) →
+    Result (Vec ℕ Global) Line → Type 0
 FirstRead most = ReadAs (AreFirst most) IsNeverWrong

@@ -36,7 +36,8 @@ event_text P kinds (Fire i b) =
     ∷ decimal (b + 1) ∷ codes "\n" ∷ [])
 event_text P kinds (End i) = concat (codes "end " ∷ decimal i ∷ codes "\n" ∷ [])
 
--- the module that was found is the one to be started; none is found where none is to be started, or it isn't there
+-- the module that was found is the one to be started; none is found where none is to be started, or
+-- it isn't there
 abbrev pub IsStartedIf : Program → (wanted found : Option ℕ) → Type 0
 IsStartedIf P wanted (Some m) = wanted ≡ Some m
 IsStartedIf P wanted None = (wanted ≡ None) ⊎ (wanted ≡ Some (length P))

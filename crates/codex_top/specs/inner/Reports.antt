@@ -13,8 +13,10 @@ use Rattle.codex_top.specs.Evaluating.{IsMeantWithin, IsSpent}
 abbrev pub outcome_at : Report → OutcomeKept → Outcome
 outcome_at report at = outcome_in (values_of report.values) (trails_of report.trails) at
 
--- the place is in the report's stores, and the outcome there is that of the program, within so many events
-pub record IsReportedAt (events : ℕ) (P : Program) (report : Report) (at : OutcomeKept) : Type 0 where
+-- the place is in the report's stores, and the outcome there is that of the program, within so many
+-- events
+pub record IsReportedAt (events : ℕ) (P : Program) (report : Report) (at : OutcomeKept) :
+    Type 0 where
   pub place : IsPlaceIn (length report.values) (length report.trails) at
   pub of_program : IsOutcomeOf P (outcome_at report at)
   pub meaning : Meaning

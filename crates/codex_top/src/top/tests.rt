@@ -2,8 +2,10 @@
 
 mod failures;
 mod grids;
+mod images;
 mod limits;
 mod loads;
+mod selftests;
 mod sessions;
 
 use crate::{Status, codex};
@@ -13,8 +15,8 @@ use std::test::Fail;
 use um_word::{ScrollFault, bytes_of};
 use umix_base::{MemShelf, MemSink, MemSource, ShelfFail};
 
-/// One row: the words, the bytes of the file `f`, the input, the call that fails, if one does, and what is
-/// expected.
+/// One row: the words, the bytes of the file `f`, the input, the call that fails, if one does, and
+/// what is expected.
 #[derive(Drop)]
 struct Row<'a> {
     words: &'a [&'a str],
@@ -264,7 +266,7 @@ fn words<'a>(words: &'a [&'a str], out: &'a [u8], err: &'a str, status: Status) 
 }
 
 const USAGE: &str =
-    "usage: check F | eval F [PICKS [N]] | trace F PICKS N | compile F OUT | run F [N] | asm F OUT | dis F | debug F INPUT | selftest N\n";
+    "usage: check F | eval F [PICKS [N]] | trace F PICKS N | compile F OUT | run F [N] | asm F OUT | dis F | debug F INPUT | selftest N | save F N OUT | resume F N\n";
 
 #[test]
 fn command_lines(rt: HostRuntime) -> Result<(), Fail> {
@@ -293,7 +295,6 @@ fn command_lines(rt: HostRuntime) -> Result<(), Fail> {
         words(&["run", "f", "0"], b"", "budget 0 cycles\n", Status::Budget),
         words(&["run", "none.um"], b"", "read fault\n", Status::ReadFault),
         words(&["debug", "f"], b"", USAGE, Status::Usage),
-        words(&["selftest", "1"], b"", USAGE, Status::Usage),
     ];
     for row in &rows {
         check(&rt, row)?;

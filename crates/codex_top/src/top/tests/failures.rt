@@ -36,8 +36,8 @@ struct Came {
     err: MemSink,
 }
 
-// What a command on the file `f` comes to where this call fails, if it is made. The input is that of a session, and the
-// file `i` is empty.
+// What a command on the file `f` comes to where this call fails, if it is made. The input is that
+// of a session, and the file `i` is empty.
 fn come_to(alloc: Global, words: &[&str], file: &[u8], fails: Fails) -> Result<Came, Fail> {
     let words = words_of_row(alloc, words)?;
     let mut shelf = MemShelf::new(alloc, fails.of_shelf(alloc)?);
@@ -71,10 +71,14 @@ fn is_unread(came: &Came) -> bool {
     is_told(came, Status::ReadFault, b"", b"read fault\n") && came.shelf.file("o").is_none()
 }
 
-// the file `o` couldn't be written: so many of its bytes are there
+// the file `o` couldn't be written: so many of its bytes are there, and all of the output went out
 fn is_unwritten(came: &Came, whole: &Came, kept: Option<usize>) -> bool {
-    is_told(came, Status::WriteFault, b"", b"write fault\n")
-        && came.shelf.file("o") == beginning(whole.shelf.file("o"), kept)
+    is_told(
+        came,
+        Status::WriteFault,
+        whole.out.bytes(),
+        b"write fault\n",
+    ) && came.shelf.file("o") == beginning(whole.shelf.file("o"), kept)
 }
 
 fn beginning(bytes: Option<&[u8]>, kept: Option<usize>) -> Option<&[u8]> {
@@ -140,8 +144,8 @@ fn calls_of<R: Abort + AllocGlobal>(
     Ok(1000)
 }
 
-// Each call of each object fails. So many are made of the shelf and of the input; and of the output and of `err` some
-// exactly where something is written there.
+// Each call of each object fails. So many are made of the shelf and of the input; and of the output
+// and of `err` some exactly where something is written there.
 fn fail_in_turn<R: Abort + AllocGlobal>(
     rt: &R,
     words: &[&str],
@@ -162,7 +166,8 @@ fn fail_in_turn<R: Abort + AllocGlobal>(
     Ok(())
 }
 
-// a command on the file `f` comes to this where nothing fails; and then each call of the outside fails in turn
+// a command on the file `f` comes to this where nothing fails; and then each call of the outside
+// fails in turn
 fn case<R: Abort + AllocGlobal>(
     rt: &R,
     words: &[&str],
@@ -229,6 +234,23 @@ fn on_scrolls_shown(rt: HostRuntime) -> Result<(), Fail> {
         REPLIES,
         "",
         Status::Done,
+    )
+}
+
+#[test]
+fn on_scrolls_saved(rt: HostRuntime) -> Result<(), Fail> {
+    let divides = "fault DivideByZero at cycle 1\n";
+    let save = &["save", "f", "2", "o"];
+    case(&rt, save, HELLO, (2, 0), "A", "", Status::Done)?;
+    case(&rt, save, ECHO, (2, 1), "s", "", Status::Done)?;
+    case(
+        &rt,
+        save,
+        &[0x50, 0, 0, 0],
+        (1, 0),
+        "",
+        divides,
+        Status::MachineFault,
     )
 }
 

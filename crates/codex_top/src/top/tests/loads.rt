@@ -16,8 +16,8 @@ const LIMITS: Limits = Limits {
     words: 268_435_456,
 };
 
-/// A load of an array other than 0: the number of the block that array 0 is after it, and whether the finger
-/// is at its first word.
+/// A load of an array other than 0: the number of the block that array 0 is after it, and whether
+/// the finger is at its first word.
 type Load = (Option<usize>, bool);
 
 /// A run made cycle by cycle: the machine after it, its loads and what it wrote.
@@ -100,8 +100,8 @@ fn watched<R: Abort + AllocGlobal>(rt: &R, linked: &Linked, cycles: u64) -> Resu
     })
 }
 
-// 2 + 3 in four instances, and the printer at the end. The counts are those of "Two scrolls, counted by hand" in
-// docs/COMPILED.md.
+// 2 + 3 in four instances, and the printer at the end. The counts are those of "Two scrolls,
+// counted by hand" in docs/COMPILED.md.
 #[test]
 fn loads_of_an_addition(rt: HostRuntime) -> Result<(), Fail> {
     let program = program_of(rt.alloc(), &[ADDITION])?;

@@ -102,8 +102,8 @@ fn sessions(rt: HostRuntime) -> Result<(), Fail> {
     sit(&rt, &missing)
 }
 
-// The commands fail at each of their calls: the lines before it are answered. Each row: the first call of a line,
-// the first of the next, and how many bytes went out before.
+// The commands fail at each of their calls: the lines before it are answered. Each row: the first
+// call of a line, the first of the next, and how many bytes went out before.
 #[test]
 fn commands_that_fail(rt: HostRuntime) -> Result<(), Fail> {
     let lines = [

@@ -1,0 +1,296 @@
+//! Rows of the commands that write an image and go on from one.
+
+use super::{Fails, HELLO, Row, USAGE, check, words, words_of_row};
+use crate::{Status, codex};
+use std::alloc::Global;
+use std::process::Abort;
+use std::test::Fail;
+use um_word::bytes_of;
+use umix_base::{MemShelf, MemSink, MemSource, Memory};
+
+// the image of the first scroll after two cycles, byte for byte
+const IMAGE: &[u8] = &[
+    0x55, 0x4d, 0x49, 0x31, 0, 0, 0, 0x41, 0, 0, 0, 0, 0, 0, 0, 0, 0, 0, 0, 0, 0, 0, 0, 0, 0, 0, 0,
+    0, 0, 0, 0, 0, 0, 0, 0, 0, 0, 0, 0, 2, 0, 0, 0, 0, 0, 0, 0, 2, 0, 0, 0, 0, 0, 0, 0, 0, 0, 0, 0,
+    0, 0, 0, 0, 0, 0, 0, 0, 0, 0, 0, 0, 3, 0xd0, 0, 0, 0x41, 0xa0, 0, 0, 0, 0x70, 0, 0, 0,
+];
+
+const DIVIDES: &[u8] = &[0x50, 0, 0, 0];
+
+// a scroll that writes its first two bytes of input
+const ECHO: &[u8] = &[
+    0xb0, 0, 0, 0, 0xa0, 0, 0, 0, 0xb0, 0, 0, 1, 0xa0, 0, 0, 1, 0x70, 0, 0, 0,
+];
+
+const SAVE: &[&str] = &["save", "f", "2", "o"];
+
+// words over an image
+fn on_image<'a>(list: &'a [&'a str], file: &'a [u8], err: &'a str, status: Status) -> Row<'a> {
+    let mut row = words(list, b"", err, status);
+    row.file = file;
+    row
+}
+
+#[test]
+fn machines_saved(rt: HostRuntime) -> Result<(), Fail> {
+    let mut row = words(SAVE, b"A", "", Status::Done);
+    row.written = Some(IMAGE);
+    check(&rt, &row)?;
+    let divides = "fault DivideByZero at cycle 1\n";
+    let rows = [
+        on_image(
+            &["save", "f", "9", "o"],
+            DIVIDES,
+            divides,
+            Status::MachineFault,
+        ),
+        on_image(
+            SAVE,
+            &DIVIDES[..3],
+            "refused 31 Ragged 3\n",
+            Status::Refused,
+        ),
+        on_image(
+            &["save", "g", "2", "o"],
+            HELLO,
+            "read fault\n",
+            Status::ReadFault,
+        ),
+    ];
+    for row in &rows {
+        check(&rt, row)?;
+    }
+    Ok(())
+}
+
+#[test]
+fn images_resumed(rt: HostRuntime) -> Result<(), Fail> {
+    let mut bad = IMAGE.to_vec(rt.alloc())?;
+    bad[0] = 0;
+    let short = "refused 82 BadImage 80\n";
+    let none = "refused 82 BadImage 0\n";
+    let rows = [
+        on_image(&["resume", "f", "1"], IMAGE, "", Status::Done),
+        on_image(
+            &["resume", "f", "0"],
+            IMAGE,
+            "budget 0 cycles\n",
+            Status::Budget,
+        ),
+        on_image(&["resume", "f", "1"], &IMAGE[..83], short, Status::Refused),
+        on_image(&["resume", "f", "1"], &bad, none, Status::Refused),
+        on_image(&["resume", "f", "1"], &[], none, Status::Refused),
+        on_image(
+            &["resume", "g", "1"],
+            IMAGE,
+            "read fault\n",
+            Status::ReadFault,
+        ),
+    ];
+    for row in &rows {
+        check(&rt, row)?;
+    }
+    Ok(())
+}
+
+#[test]
+fn faulty_words(rt: HostRuntime) -> Result<(), Fail> {
+    let rows = [
+        words(&["save", "f"], b"", USAGE, Status::Usage),
+        words(&["save", "f", "2"], b"", USAGE, Status::Usage),
+        words(&["save", "f", "x", "o"], b"", USAGE, Status::Usage),
+        words(&["save", "f", "2", "o", "o"], b"", USAGE, Status::Usage),
+        words(&["resume", "f"], b"", USAGE, Status::Usage),
+        words(&["resume", "f", "01"], b"", USAGE, Status::Usage),
+        words(
+            &["resume", "f", "4611686018427387905"],
+            b"",
+            USAGE,
+            Status::Usage,
+        ),
+    ];
+    for row in &rows {
+        check(&rt, row)?;
+    }
+    Ok(())
+}
+
+// the image couldn't be written, and the output has all that the run wrote
+#[test]
+fn images_not_written(rt: HostRuntime) -> Result<(), Fail> {
+    let mut row = words(SAVE, b"A", "write fault\n", Status::WriteFault);
+    row.fails = Fails::Shelf(1, None);
+    check(&rt, &row)?;
+    row.fails = Fails::Shelf(1, Some(5));
+    row.written = Some(&IMAGE[..5]);
+    check(&rt, &row)
+}
+
+// does what the words ask for, over a shelf and an output that stay, on this input from its beginning
+fn then<R: Abort + AllocGlobal>(
+    rt: &R,
+    shelf: &mut MemShelf,
+    list: &[&str],
+    input: MemSource,
+    out: &mut MemSink,
+    err: &str,
+    status: Status,
+) -> Result<(), Fail> {
+    let alloc = rt.alloc();
+    let words = words_of_row(alloc, list)?;
+    let mut input = input;
+    let mut line = MemSink::new(alloc, 1000, Vec::new(alloc))?;
+    let ended = codex(alloc, &words, shelf, &mut input, out, &mut line);
+    assert_eq!(rt; line.bytes(), err.as_bytes());
+    assert_eq!(rt; ended, status);
+    Ok(())
+}
+
+fn input_of(alloc: Global, bytes: &[u8], fails: Fails) -> Result<MemSource, Fail> {
+    Ok(MemSource::new(bytes.to_vec(alloc)?, fails.of_input(alloc)?))
+}
+
+fn shelf_with(alloc: Global, file: &[u8]) -> Result<MemShelf, Fail> {
+    let mut shelf = MemShelf::new(alloc, Vec::new(alloc));
+    shelf.place("f", file.to_vec(alloc)?)?;
+    Ok(shelf)
+}
+
+/// A row of two commands: the cycles of the first, the cycles of the second and the call of its input that
+/// fails, what both wrote, and the line and the status of the second.
+#[derive(Drop)]
+struct SavedRow<'a> {
+    file: &'a [u8],
+    cycles: (&'a str, &'a str),
+    fails: Fails,
+    out: &'a [u8],
+    err: &'a str,
+    status: Status,
+}
+
+// a scroll is saved and gone on with, both on the input `xy`
+fn saved_then_resumed<R: Abort + AllocGlobal>(rt: &R, row: &SavedRow<'_>) -> Result<(), Fail> {
+    let alloc = rt.alloc();
+    let mut shelf = shelf_with(alloc, row.file)?;
+    let mut out = MemSink::new(alloc, 1000, Vec::new(alloc))?;
+    let save = &["save", "f", row.cycles.0, "o"];
+    let whole = input_of(alloc, b"xy", Fails::None)?;
+    then(rt, &mut shelf, save, whole, &mut out, "", Status::Done)?;
+    let resume = &["resume", "o", row.cycles.1];
+    let again = input_of(alloc, b"xy", row.fails)?;
+    then(rt, &mut shelf, resume, again, &mut out, row.err, row.status)?;
+    assert_eq!(rt; out.bytes(), row.out);
+    Ok(())
+}
+
+fn saved_row<'a>(
+    file: &'a [u8],
+    cycles: (&'a str, &'a str),
+    out: &'a [u8],
+    err: &'a str,
+    status: Status,
+) -> SavedRow<'a> {
+    SavedRow {
+        file,
+        cycles,
+        fails: Fails::None,
+        out,
+        err,
+        status,
+    }
+}
+
+#[test]
+fn saved_and_resumed(rt: HostRuntime) -> Result<(), Fail> {
+    let spent = "budget 0 cycles\n";
+    let rows = [
+        saved_row(ECHO, ("2", "3"), b"xy", "", Status::Done),
+        saved_row(ECHO, ("3", "0"), b"x", spent, Status::Budget),
+        saved_row(HELLO, ("0", "0"), b"", spent, Status::Budget),
+        saved_row(HELLO, ("9", "0"), b"A", "", Status::Done),
+        saved_row(
+            DIVIDES,
+            ("0", "9"),
+            b"",
+            "fault DivideByZero at cycle 1\n",
+            Status::MachineFault,
+        ),
+    ];
+    for row in &rows {
+        saved_then_resumed(&rt, row)?;
+    }
+    let mut row = saved_row(ECHO, ("2", "3"), b"x", "read fault\n", Status::ReadFault);
+    row.fails = Fails::Input(0);
+    saved_then_resumed(&rt, &row)?;
+    row.fails = Fails::Input(1);
+    saved_then_resumed(&rt, &row)
+}
+
+const ROUNDS: usize = 20_000;
+
+// a scroll that writes its first 20,000 bytes of input, one in each round of 50 cycles: 1,000,003 cycles in all
+fn rounds(alloc: Global) -> Result<Vec<u8>, Fail> {
+    let mut words = Vec::new(alloc);
+    for word in [
+        0xd200_4e20,
+        0x6000_00d2,
+        0xb000_0006,
+        0xa000_0006,
+        0x3000_004b,
+    ] {
+        words.push(word)?;
+    }
+    for _ in 0..43 {
+        words.push(0x3000_01fb)?;
+    }
+    for word in [
+        0xd800_0034,
+        0xda00_0002,
+        0x0000_0129,
+        0xc000_0014,
+        0x7000_0000,
+    ] {
+        words.push(word)?;
+    }
+    Ok(bytes_of(alloc, &words)?)
+}
+
+fn many_bytes(alloc: Global) -> Result<Vec<u8>, Memory> {
+    let mut bytes = Vec::new(alloc);
+    for at in 0..ROUNDS {
+        bytes.push((at % 251) as u8)?;
+    }
+    Ok(bytes)
+}
+
+// the scroll is saved after so many cycles and gone on with: both write what one run writes
+fn cut<R: Abort + AllocGlobal>(
+    rt: &R,
+    file: &[u8],
+    bytes: &[u8],
+    cycles: &str,
+) -> Result<(), Fail> {
+    let alloc = rt.alloc();
+    let mut shelf = shelf_with(alloc, file)?;
+    let mut out = MemSink::new(alloc, ROUNDS, Vec::new(alloc))?;
+    let whole = input_of(alloc, bytes, Fails::None)?;
+    let save = &["save", "f", cycles, "o"];
+    then(rt, &mut shelf, save, whole, &mut out, "", Status::Done)?;
+    let again = input_of(alloc, bytes, Fails::None)?;
+    let resume = &["resume", "o", "1000003"];
+    then(rt, &mut shelf, resume, again, &mut out, "", Status::Done)?;
+    assert!(rt; out.bytes() == bytes);
+    Ok(())
+}
+
+#[test]
+fn million_cycles_cut(rt: HostRuntime) -> Result<(), Fail> {
+    let file = rounds(rt.alloc())?;
+    let bytes = many_bytes(rt.alloc())?;
+    for k in 1..21u64 {
+        let cycles = k * 47_619;
+        let number = format!(in rt.alloc(); "{cycles}")?;
+        cut(&rt, &file, &bytes, number.as_str())?;
+    }
+    Ok(())
+}
