@@ -1,5 +1,5 @@
-// Every array stands in a vector of its own: array 0 in `zero`, and each other at the place that its
-// identifier numbers.
+// Each array stands in a vector of its own, at the place that its identifier numbers; array 0 and the
+// array that it names stand in one together, `zero`.
 ghost use Rattle.std.specs.Prelude.{Some, ◌≡◌, ℕ, ◌+◌, ◌-◌, ◌^◌, ◌≤◌, ◌<◌, List, length, replicate, slice_get, slice_set, slice_index, option_copied, vec_len, vec_capacity, All, IfOk, IfErr, OnOk, OnErr};
 ghost use Rattle.std.specs.Option.{option_map};
 ghost use Rattle.std.specs.FinMap as map;

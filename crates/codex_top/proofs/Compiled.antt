@@ -163,17 +163,17 @@ on_no_input P words input blocks n follows fits =
     same_run [] limits n none_made (start_of words input)
     (λ m. asks_no_input P words input blocks m follows fits)
 
-input_fails : (registers : List ℕ) (op : Option Op) → MayFail registers op stop.ReadFault →
+input_fails : (op : Option Op) → MayFail op stop.ReadFault →
     (c : ℕ) × (op ≡ Some (Input c))
-input_fails registers (Some (Input c)) fails = (c, refl)
-input_fails registers _ fails = absurd fails
+input_fails (Some (Input c)) fails = (c, refl)
+input_fails _ fails = absurd fails
 
 unfailed_input : (P : Program) (words input : List ℕ) (blocks : List (ℕ × ℕ)) (n : ℕ) (at : State)
     (i : Identifiers) → Follows P words blocks → length words ≤ limits.words →
     run_on words input n ≡ Stands at i → at.halted ≡ false →
-    MayFail at.registers (op_under at) stop.ReadFault → ⊥
+    MayFail (op_under at) stop.ReadFault → ⊥
 unfailed_input P words input blocks n at i follows fits stands running fails =
-    let (c, is) = input_fails at.registers (op_under at) fails in
+    let (c, is) = input_fails (op_under at) fails in
     subst AsksNothing stands (asks_no_input P words input blocks n follows fits) running c is
 
 -- one cycle that goes on

@@ -5,8 +5,8 @@ use Rattle.std.specs.Str.{byte}
 use Rattle.two_d.specs.Steps.{Choice, First, Last, Listed}
 use Rattle.codex_top.specs.Limits.{most_made, most_number}
 
--- a job: what the program is to do with which files, by which picks, and at most how often; or the number of the
--- grid that it is to make
+-- a job: what the program is to do with which files, by which picks, and at most how often; or the
+-- number of the grid that it is to make
 pub data Job : Type 0 where
   checks : (file : List ℕ) → Job
   evaluates : (file : List ℕ) (picks : Choice) (events : ℕ) → Job

@@ -87,7 +87,7 @@ pub record IsCutOff (L : Limits) (points : Points) (n : ℕ) (i : Identifiers) (
   pub at : State
   pub goes : goes_for L points made i s ≡ Goes at j
   pub running : at.halted ≡ false
-  pub fails : MayFail at.registers (op_under at) why
+  pub fails : MayFail (op_under at) why
   pub next : State
   pub would_go : cycle at L (next_identifier j) ≡ table.Goes next
   pub remains : Remains why at next t

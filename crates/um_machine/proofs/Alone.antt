@@ -57,7 +57,7 @@ module _ (h : List ℕ) (n : ℕ) (old new : MachineView) (s : State) where
           at = x.0;
           stands = x.1;
           running = ap (λ (a : State). a.halted) (sym x.2) ∙ e.running;
-          fails = subst (λ a. MayFail a.registers (op_under a) stop) x.2 e.fails;
+          fails = subst (λ a. MayFail (op_under a) stop) x.2 e.fails;
           next = y.0;
           goes = y.1;
           remains = r.2;

@@ -54,13 +54,13 @@ of_table table.FingerOutside n old new s t e = e
 of_table _ n old new s t e = e
 
 -- what isn't of the table ends a run early
-early : (registers : List ℕ) (op : Option Op) (stop : Stop) (n : ℕ) (old new : MachineView) (s t : State) →
-    MayFail registers op stop → EndsEarly n old new s t stop → RunEnds n old new s t stop
-early registers (Some (Input c)) ReadFault n old new s t f e = e
-early registers (Some (Out c)) WriteFault n old new s t f e = e
-early registers (Some (Alloc b c)) Memory n old new s t f e = e
-early registers (Some (Amend a b c)) Memory n old new s t f e = e
-early registers op stop n old new s t f e = absurd f
+early : (op : Option Op) (stop : Stop) (n : ℕ) (old new : MachineView) (s t : State) →
+    MayFail op stop → EndsEarly n old new s t stop → RunEnds n old new s t stop
+early (Some (Input c)) ReadFault n old new s t f e = e
+early (Some (Out c)) WriteFault n old new s t f e = e
+early (Some (Alloc b c)) Memory n old new s t f e = e
+early (Some (Amend a b c)) Memory n old new s t f e = e
+early op stop n old new s t f e = absurd f
 
 -- a run whose next cycle failed
 module _ (k n : ℕ) (first old : MachineView) (s : State) (left : List ℕ) (before now : Option (List ℕ)) (fewer : k < n)
@@ -96,13 +96,13 @@ module _ (k n : ℕ) (first old : MachineView) (s : State) (left : List ℕ) (be
   }
 
   at_failure : (stop : Stop) (t : State) → cycle (state_of old left m.sent) old.limits (next_identifier old.identifiers) ≡ Goes t →
-      MayFail old.registers (op_under (state_of old [] [])) stop × Wrote stop (now ≡ before) (MayHold now t.out) → Ended n first old s left now stop
+      MayFail (op_under (state_of old [] [])) stop × Wrote stop (now ≡ before) (MayHold now t.out) → Ended n first old s left now stop
   at_failure stop t q x =
       let r = remains stop t x.1 in
       record {
         sent = r.0;
         holds = r.1;
-        ends = early old.registers (op_under (state_of old [] [])) stop n first old s (state_of old left r.0) x.0 (record {
+        ends = early (op_under (state_of old [] [])) stop n first old s (state_of old left r.0) x.0 (record {
           made = k;
           fewer = fewer;
           at = state_of old left m.sent;

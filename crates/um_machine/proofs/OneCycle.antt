@@ -27,23 +27,23 @@ not_budget : (fault : Fault) → Budget ≡ stop_of fault → ⊥
 not_budget table.FingerOutside e = cc
 not_budget _ e = cc
 
-may_not_halt : (registers : List ℕ) (op : Option Op) → MayFail registers op Halted → ⊥
-may_not_halt registers None f = f
-may_not_halt registers (Some (Input c)) f = f
-may_not_halt registers _ f = f
+may_not_halt : (op : Option Op) → MayFail op Halted → ⊥
+may_not_halt None f = f
+may_not_halt (Some (Input c)) f = f
+may_not_halt _ f = f
 
-may_not_budget : (registers : List ℕ) (op : Option Op) → MayFail registers op Budget → ⊥
-may_not_budget registers None f = f
-may_not_budget registers (Some (Input c)) f = f
-may_not_budget registers _ f = f
+may_not_budget : (op : Option Op) → MayFail op Budget → ⊥
+may_not_budget None f = f
+may_not_budget (Some (Input c)) f = f
+may_not_budget _ f = f
 
 module _ (op : Option Op) (old new : MachineView) (left : List ℕ) (before now : Option (List ℕ)) where
   never_halted : (r : Next) → AnswersRow op new left before now r (Err Halted) → ⊥
-  never_halted (Goes t) x = may_not_halt new.registers op x.0
+  never_halted (Goes t) x = may_not_halt op x.0
   never_halted (Stops fault) x = not_halted fault x.0
 
   never_budget : (r : Next) → AnswersRow op new left before now r (Err Budget) → ⊥
-  never_budget (Goes t) x = may_not_budget new.registers op x.0
+  never_budget (Goes t) x = may_not_budget op x.0
   never_budget (Stops fault) x = not_budget fault x.0
 
   failed : (stop : Stop) (r : Next) (s t : State) → AnswersRow op new left before now r (Err stop) → RunEnds 1 old new s t stop → CycleEnds old new s t (Err stop)

@@ -58,7 +58,7 @@ pub record EndsEarly (n : ℕ) (old new : MachineView) (s t : State) (stop : Sto
   pub at : State
   pub stands : ruled old.limits made old.identifiers s ≡ Stands at new.identifiers
   pub running : at.halted ≡ false
-  pub fails : MayFail at.registers (op_under at) stop
+  pub fails : MayFail (op_under at) stop
   pub next : State
   pub goes : cycle at old.limits (next_identifier new.identifiers) ≡ Goes next
   pub remains : Remains stop at next t

@@ -35,13 +35,13 @@ abbrev pub unfailed_end : Bool → Stop
 unfailed_end true = Halted
 unfailed_end false = Budget
 
--- With these registers, at these operators alone a cycle may fail for another cause than the table's.
-abbrev pub MayFail : List ℕ → Option Op → Stop → Type 0
-MayFail registers (Some (Input c)) ReadFault = Unit {0}
-MayFail registers (Some (Out c)) WriteFault = Unit {0}
-MayFail registers (Some (Alloc b c)) Memory = Unit {0}
-MayFail registers (Some (Amend a b c)) Memory = Unit {0}
-MayFail registers op stop = ⊥
+-- at these operators alone a cycle may fail for another cause than the table's
+abbrev pub MayFail : Option Op → Stop → Type 0
+MayFail (Some (Input c)) ReadFault = Unit {0}
+MayFail (Some (Out c)) WriteFault = Unit {0}
+MayFail (Some (Alloc b c)) Memory = Unit {0}
+MayFail (Some (Amend a b c)) Memory = Unit {0}
+MayFail op stop = ⊥
 
 -- the name of a stop, as it is printed
 abbrev pub stop_name : Stop → List ℕ

@@ -9,7 +9,8 @@ use Rattle.um_word.specs.State.{State, Arrays, live_arrays, live_words, reg, sta
 use Rattle.um_word.specs.Table.{Next, Goes, Stops, cycle, op_under}
 use Rattle.um_word.specs.Run.{Standing, Stands, Failed, run_by, run, is_allocation, AreLegal}
 
--- the number of identifiers ever made, and those abandoned and not reused since, in the order of their abandonment
+-- the number of identifiers ever made, and those abandoned and not reused since, in the order of
+-- their abandonment
 pub record Identifiers : Type 0 where
   pub made : ℕ
   pub abandoned : List ℕ

@@ -20,7 +20,7 @@ Wrote stop nothing byte = nothing
 -- the sink held before and holds now.
 abbrev pub AnswersRow : Option Op → MachineView → List ℕ → Option (List ℕ) → Option (List ℕ) → Next → Result Turn Stop → Type 0
 AnswersRow op new left before now (Goes t) (Ok turn) = (turn ≡ turn_of t.halted) × (t ≡ state_of new left t.out) × MayHold now t.out
-AnswersRow op new left before now (Goes t) (Err stop) = MayFail new.registers op stop × Wrote stop (now ≡ before) (MayHold now t.out)
+AnswersRow op new left before now (Goes t) (Err stop) = MayFail op stop × Wrote stop (now ≡ before) (MayHold now t.out)
 AnswersRow op new left before now (Stops fault) (Ok turn) = ⊥
 AnswersRow op new left before now (Stops fault) (Err stop) = (stop ≡ stop_of fault) × (now ≡ before)
 
@@ -34,7 +34,7 @@ rest_before result op before registers left = left
 -- an answer and the machine that it leaves, of a call that asks neither the source nor the sink
 abbrev pub AnswersRowAlone : Op → MachineView → (rest out : List ℕ) → Next → Result (Unit {0}) Stop → Type 0
 AnswersRowAlone op new rest out (Goes t) (Ok done) = t ≡ state_of new rest out
-AnswersRowAlone op new rest out (Goes t) (Err stop) = MayFail new.registers (Some op) stop
+AnswersRowAlone op new rest out (Goes t) (Err stop) = MayFail (Some op) stop
 AnswersRowAlone op new rest out (Stops fault) (Ok done) = ⊥
 AnswersRowAlone op new rest out (Stops fault) (Err stop) = stop ≡ stop_of fault
 
