@@ -13,7 +13,7 @@ use Rattle.two_d.specs.Reading.{Reading, Gave, The, Told, went, failed, Then, Re
 use Rattle.two_d.specs.Program.{CommandOf, drawing, Shows, Drawn, module_in, placed_fault, program_of}
 use Rattle.two_d.specs.Programs.{BoxForm, ModuleForm, Program}
 use Rattle.two_d.specs.Names.{IsName}
-use Rattle.two_d.specs.Sound.{IsSound}
+use Rattle.two_d.specs.Sound.{IsSound, LeadsOn}
 use Rattle.two_d.specs.Trees.{Form, IsWithin}
 use Rattle.two_d.specs.Table.{table_of}
 use Rattle.two_d.specs.inner.TableParts.{uses_of, cycles_of}
@@ -26,7 +26,6 @@ use Rattle.two_d.proofs.InOrder.{then_ok, gave_is, the_has, each_gave}
 use Rattle.two_d.proofs.OneWire.{IsWellDrawn}
 use Rattle.two_d.proofs.Passed.{frames_entered}
 use Rattle.two_d.proofs.Shown.{written_within}
-use Rattle.module_table.specs.Answers.{LeadsOn}
 use Rattle.module_table.proofs.Sums.{added}
 use Rattle.module_table.proofs.TextWeight.{lines_added}
 use Rattle.module_table.proofs.FiguresRead.{found_is, AreFrames, frames_gave}

@@ -15,7 +15,7 @@ use Rattle.two_d.specs.Wires.{Position, south, east, StartsAt, at_north, at_west
 use Rattle.two_d.specs.Clean.{ports_at, AreStarts, wire_at, IsStray, WireForm, IsWire, wires_of}
 use Rattle.two_d.specs.Program.{Shows}
 use Rattle.two_d.specs.Programs.{BoxForm, ModuleForm}
-use Rattle.two_d.specs.Sound.{Comes, Exists}
+use Rattle.two_d.specs.Sound.{Comes, Exists, LeadsOn}
 use Rattle.two_d.specs.declared.module.Origin.{Origin}
 use Rattle.two_d.specs.declared.module.Origin.TheVariants.{North, West}
 use Rattle.two_d.specs.declared.module.To.{To}
@@ -25,7 +25,6 @@ use Rattle.two_d.proofs.OneWire.{IsWellDrawn, FromSouth, FromEast, from_is, one_
 use Rattle.two_d.proofs.Options.{some_from}
 use Rattle.two_d.proofs.ReadingOrder.{Before-irreflexive}
 use Rattle.two_d.proofs.SomeWires.{traces_gave, there_at}
-use Rattle.module_table.specs.Answers.{LeadsOn}
 use Rattle.module_table.proofs.StartsOne.{one_start}
 
 -- the wires that were read, with the positions at which they begin

@@ -10,11 +10,11 @@ use Rattle.two_d.specs.Places.{Rect, at, corner_of}
 use Rattle.two_d.specs.Program.{Drawn, module_in, no_figure, module_place, box_place, placed_fault, program_of}
 use Rattle.two_d.specs.Programs.{Program, no_module, module_of, modules_of}
 use Rattle.two_d.specs.Reading.{went, goes_on, Gives, Refuses, faults_mapped, each}
-use Rattle.two_d.specs.Sound.{IsSound}
+use Rattle.two_d.specs.Sound.{IsSound, LeadsOn}
 use Rattle.two_d.specs.Table.{table_of}
 use Rattle.two_d.specs.Weights.{weight}
 use Rattle.two_d.specs.declared.module.Module.{Module}
-use Rattle.module_table.specs.Answers.{answer_of, HasNumberOf, LeadsOn}
+use Rattle.module_table.specs.Answers.{answer_of, HasNumberOf}
 use Rattle.module_table.specs.declared.fault.CheckFault.TheVariants.{Bad}
 use Rattle.module_table.specs.declared.corners.Corners.{Corners}
 use Rattle.module_table.specs.declared.fault.CheckFault.{CheckFault}

@@ -1,11 +1,7 @@
 -- What `check` answers, in the words of the definitions.
-use Rattle.std.specs.Prelude.{◌≡◌, ℕ, IsTrue, Option, Some, None}
+use Rattle.std.specs.Prelude.{◌≡◌, ℕ, Option, Some, None}
 use Rattle.umix_base.specs.declared.place.Place.{Place}
 use Rattle.two_d.specs.Faults.{TextFault, told_as}
-use Rattle.two_d.specs.Programs.{ModuleForm}
-use Rattle.two_d.specs.declared.module.Origin.TheVariants.{North, West}
-use Rattle.two_d.specs.Sound.{Comes}
-use Rattle.two_d.specs.declared.module.To.{To}
 use Rattle.module_table.specs.declared.fault.CheckFault.{CheckFault}
 use Rattle.module_table.specs.declared.fault.CheckFault.TheVariants.{Bad, Memory}
 
@@ -18,8 +14,3 @@ answer_of Memory = None
 abbrev pub HasNumberOf : CheckFault → TextFault → Type 0
 HasNumberOf (Bad number place) fault = (told_as fault).0 ≡ number
 HasNumberOf Memory fault = ⊥
-
--- each entry of the module is the source of a wire
-pub record LeadsOn (m : ModuleForm) : Type 0 where
-  pub north : IsTrue m.north → (end : To) × Comes m North end
-  pub west : IsTrue m.west → (end : To) × Comes m West end

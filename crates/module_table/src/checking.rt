@@ -3,9 +3,9 @@ ghost use Rattle.two_d.specs.Faults.{number_and_place};
 ghost use Rattle.two_d.specs.Program.{Drawn, program_of};
 ghost use Rattle.two_d.specs.Programs.{modules_of};
 ghost use Rattle.two_d.specs.Reading.{Gives, faults_mapped};
-ghost use Rattle.two_d.specs.Sound.{IsSound};
+ghost use Rattle.two_d.specs.Sound.{IsSound, LeadsOn};
 ghost use Rattle.two_d.specs.Weights.{weight};
-ghost use Rattle.module_table.specs.Answers.{answer_of, LeadsOn};
+ghost use Rattle.module_table.specs.Answers.{answer_of};
 ghost use Rattle.module_table.specs.inner.Drawings.{AreModulesRead, placed_reading};
 
 use crate::corners::placed;

@@ -20,6 +20,11 @@ Exists m West = IsTrue m.west
 Exists m (South b) = b < length m.boxes
 Exists m (East b) = b < length m.boxes
 
+-- each entry of the module is the source of a wire
+pub record LeadsOn (m : ModuleForm) : Type 0 where
+  pub north : IsTrue m.north → (end : To) × Comes m North end
+  pub west : IsTrue m.west → (end : To) × Comes m West end
+
 pub record IsSound (m : ModuleForm) : Type 0 where
   pub named : IsName m.name
   pub known : (o : Origin) (end : To) → Comes m o end → Exists m o
