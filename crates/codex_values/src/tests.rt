@@ -117,7 +117,6 @@ fn a_million_levels_are_printed_and_read(rt: HostRuntime) -> Result<(), Fail> {
     assert!(rt; top < store.len());
     let text = printed(alloc, &store, top)?;
     assert_eq!(rt; text.len(), 4_000_002);
-    let again = store.read_value(&text)?;
-    assert_eq!(rt; printed(alloc, &store, again)?, text);
+    assert_eq!(rt; store.read_value(&text)?, top);
     Ok(())
 }

@@ -49,3 +49,28 @@ impl Name {
         self.bytes.as_slice()
     }
 }
+
+#[cfg(test)]
+mod tests {
+    use super::Name;
+    use std::test::Fail;
+
+    const LONGEST: &[u8] = b"a_name_of_thirty_two_bytes_here_";
+
+    #[test]
+    fn names_are_read(rt: HostRuntime) -> Result<(), Fail> {
+        for name in [b"plus".as_slice(), LONGEST] {
+            let found = Name::read(rt.alloc(), name)?;
+            assert!(rt; found.is_some_and(|found| found.bytes() == name));
+        }
+        Ok(())
+    }
+
+    #[test]
+    fn other_bytes_are_no_names(rt: HostRuntime) -> Result<(), Fail> {
+        for bytes in [b"9a".as_slice(), b"", b"a_name_of_thirty_three_bytes_here"] {
+            assert!(rt; Name::read(rt.alloc(), bytes)?.is_none());
+        }
+        Ok(())
+    }
+}
