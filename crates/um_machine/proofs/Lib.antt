@@ -4,5 +4,6 @@ pub mod Rests
 pub mod Cycles
 pub mod Ends
 pub mod OneCycle
+pub mod Placed
 pub mod Joined
 pub mod Alone

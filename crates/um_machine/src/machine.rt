@@ -5,14 +5,14 @@ ghost use Rattle.std.specs.Option.{option_map};
 ghost use Rattle.std.specs.FinMap as map;
 ghost use Rattle.um_word.specs.Operators.{IsEncodable};
 ghost use Rattle.um_word.specs.State.{array_at, live_arrays, live_words};
-ghost use Rattle.um_word.specs.Table.{row, moved, cycle, op_under};
+ghost use Rattle.um_word.specs.Table.{row, cycle, op_under};
 ghost use Rattle.um_word.specs.Rule.{next_identifier, left_by, identifiers_left};
 ghost use Rattle.array_store.specs.StoreView.{most_live_arrays, most_live_words, most_limits};
 ghost use Rattle.um_machine.specs.MachineView.{state_of, machine_of, IsWhole};
 ghost use Rattle.um_machine.specs.MachineParts.{AreMachineParts, parts_of, machine_of_parts};
 ghost use Rattle.um_machine.specs.Outside.{MayRest, MayHold, IsAsked, IsFed};
 ghost use Rattle.um_machine.specs.Stops.{turn_of, is_input, is_output};
-ghost use Rattle.um_machine.specs.inner.OperatorCalls.{AnswersRow, DoesRow, rest_before};
+ghost use Rattle.um_machine.specs.inner.OperatorCalls.{placed, op_at, AnswersRow, DoesRow, rest_before};
 ghost use Rattle.um_machine.specs.Runs.{seen_by, GoesFromTo, RunEnds, CycleEnds};
 
 use crate::{Saved, Stop, Turn};
@@ -223,24 +223,20 @@ impl Machine {
         self.registers[k as usize] = value;
     }
 
-    // the finger moves on, and the cycle is counted
-    fn advance(&mut self)
-        requires finger { self.old.finger + 1 < 2 ^ 32 }
-        requires cycles { self.old.cycles + 1 < 2 ^ 64 }
-        ensures { self.new ≡ record self.old {
-          finger = self.old.finger + 1;
-          cycles = self.old.cycles + 1;
-        } }
+    // the finger and the cycles that were made are written back
+    fn settle(&mut self, finger: u32, made: u64)
+        requires { self.old.cycles + made < 2 ^ 64 }
+        ensures placed { self.new ≡ placed self.old finger (self.old.cycles + made) }
+        ensures whole { IsWhole self.new }
     {
-        self.finger += 1;
-        self.cycles += 1;
+        self.finger = finger;
+        self.cycles += made;
+        self.stays_whole();
     }
 
     // A becomes the platter at offset C of array B
     fn index(&mut self, a: u8, b: u8, c: u8) -> Result<(), Stop>
         requires registers { (a < 8) × (b < 8) × (c < 8) }
-        requires finger { self.old.finger + 1 < 2 ^ 32 }
-        requires cycles { self.old.cycles + 1 < 2 ^ 64 }
         ensures { DoesRow (Op.Index a b c) self.old self.new result }
     {
         let word = match self.store.index(self.register(b), self.register(c)) {
@@ -248,7 +244,6 @@ impl Machine {
             Err(StoreFault::Inactive) => return Err(Stop::IndexInactive),
             Err(_) => return Err(Stop::IndexOutside),
         };
-        self.advance();
         self.set(a, word);
         Ok(())
     }
@@ -256,26 +251,20 @@ impl Machine {
     // the platter at offset B of array A becomes C
     fn amend(&mut self, a: u8, b: u8, c: u8) -> Result<(), Stop>
         requires registers { (a < 8) × (b < 8) × (c < 8) }
-        requires finger { self.old.finger + 1 < 2 ^ 32 }
-        requires cycles { self.old.cycles + 1 < 2 ^ 64 }
         ensures { DoesRow (Op.Amend a b c) self.old self.new result }
     {
         let (id, at, word) = (self.register(a), self.register(b), self.register(c));
         match self.store.amend(id, at, word) {
-            Ok(()) => {}
-            Err(StoreFault::Inactive) => return Err(Stop::AmendInactive),
-            Err(StoreFault::Outside) => return Err(Stop::AmendOutside),
-            Err(_) => return Err(Stop::Memory),
+            Ok(()) => Ok(()),
+            Err(StoreFault::Inactive) => Err(Stop::AmendInactive),
+            Err(StoreFault::Outside) => Err(Stop::AmendOutside),
+            Err(_) => Err(Stop::Memory),
         }
-        self.advance();
-        Ok(())
     }
 
     // a new array of C platters, whose identifier goes to B
     fn allocate(&mut self, b: u8, c: u8) -> Result<(), Stop>
         requires registers { (b < 8) × (c < 8) }
-        requires finger { self.old.finger + 1 < 2 ^ 32 }
-        requires cycles { self.old.cycles + 1 < 2 ^ 64 }
         ensures { DoesRow (Op.Alloc b c) self.old self.new result }
     {
         let size = self.register(c);
@@ -285,7 +274,6 @@ impl Machine {
             Err(StoreFault::WordsFull(count)) => return Err(Stop::WordsFull(count)),
             Err(_) => return Err(Stop::Memory),
         };
-        self.advance();
         self.set(b, id);
         Ok(())
     }
@@ -293,67 +281,58 @@ impl Machine {
     // array C is no more
     fn abandon(&mut self, c: u8) -> Result<(), Stop>
         requires registers { c < 8 }
-        requires finger { self.old.finger + 1 < 2 ^ 32 }
-        requires cycles { self.old.cycles + 1 < 2 ^ 64 }
         ensures { DoesRow (Op.Abandon c) self.old self.new result }
     {
         let id = self.register(c);
         match self.store.abandon(id) {
-            Ok(()) => {}
-            Err(StoreFault::Zero) => return Err(Stop::AbandonZero),
-            Err(_) => return Err(Stop::AbandonInactive),
+            Ok(()) => Ok(()),
+            Err(StoreFault::Zero) => Err(Stop::AbandonZero),
+            Err(_) => Err(Stop::AbandonInactive),
         }
-        self.advance();
-        Ok(())
     }
 
-    // a duplicate of array B takes the place of array 0, and the finger becomes C
+    // a duplicate of array B takes the place of array 0
     fn load(&mut self, b: u8, c: u8) -> Result<(), Stop>
         requires registers { (b < 8) × (c < 8) }
-        requires finger { self.old.finger + 1 < 2 ^ 32 }
-        requires cycles { self.old.cycles + 1 < 2 ^ 64 }
         ensures { DoesRow (Op.Load b c) self.old self.new result }
     {
-        let (id, finger) = (self.register(b), self.register(c));
+        let id = self.register(b);
         match self.store.load(id) {
-            Ok(()) => {}
-            Err(StoreFault::WordsFull(count)) => return Err(Stop::WordsFull(count)),
-            Err(_) => return Err(Stop::LoadInactive),
+            Ok(()) => Ok(()),
+            Err(StoreFault::WordsFull(count)) => Err(Stop::WordsFull(count)),
+            Err(_) => Err(Stop::LoadInactive),
         }
-        self.advance();
-        self.finger = finger;
-        Ok(())
     }
 
-    // the operator's row of the table
+    // the operator's row of the table, where the finger has moved on
     #[tactic(auto, using(crate::proofs::Bytes::held_more, crate::proofs::Bytes::held_one))]
     fn discharge<I: Source, O: Sink>(
         &mut self,
         op: Op,
+        finger: &mut u32,
         input: &mut I,
         out: &mut O,
     ) -> Result<Turn, Stop>
         requires registers { IsEncodable op }
-        requires finger { self.old.finger + 1 < 2 ^ 32 }
-        requires cycles { self.old.cycles + 1 < 2 ^ 64 }
         requires running { self.old.halted ≡ false }
         ensures rest { (left : List ℕ) → MayRest (I.rest input.new) left →
             MayRest (I.rest input.old)
             (rest_before result (Some op) (I.rest input.old) self.new.registers left) }
-        ensures row { (left : List ℕ) → MayRest (I.rest input.new) left →
+        ensures row { (cycles : ℕ) (left : List ℕ) → MayRest (I.rest input.new) left →
             (held : List ℕ) → MayHold (O.written out.old) held →
-            AnswersRow (Some op) self.new left (O.written out.old) (O.written out.new)
+            AnswersRow (Some op) (placed self.new finger.new cycles) left
+            (O.written out.old) (O.written out.new)
             (row op self.old.limits (next_identifier self.old.identifiers)
-            (moved (state_of self.old
-            (rest_before result (Some op) (I.rest input.old) self.new.registers left) held)))
+            (state_of (placed self.old finger.old cycles)
+            (rest_before result (Some op) (I.rest input.old) self.new.registers left) held))
             result }
         ensures identifiers { OnOk result (self.new.identifiers
             ≡ left_by (Some op) (state_of self.old [] []) self.old.identifiers) }
         ensures limits { self.new.limits ≡ self.old.limits }
         ensures turn { IfOk result (λ turn. turn ≡ turn_of self.new.halted) }
-        ensures counted { OnOk result (self.new.cycles ≡ self.old.cycles + 1) }
-        ensures kept { OnErr result
-            ((self.new ≡ self.old) × (I.rest input.new ≡ I.rest input.old)) }
+        ensures place { (self.new.finger ≡ self.old.finger) × (self.new.cycles ≡ self.old.cycles) }
+        ensures kept { OnErr result ((self.new ≡ self.old) × (finger.new ≡ finger.old)
+            × (I.rest input.new ≡ I.rest input.old)) }
         ensures unasked { is_input (Some op) ≡ false → input.new ≡ input.old }
         ensures unfed { is_output (Some op) ≡ false → out.new ≡ out.old }
         ensures input { IsAsked I.Source input.old input.new (result ≡ Err Stop.ReadFault) }
@@ -361,7 +340,6 @@ impl Machine {
     {
         match op {
             Op::Move(a, b, c) => {
-                self.advance();
                 if self.register(c) != 0 {
                     let value = self.register(b);
                     self.set(a, value);
@@ -378,13 +356,11 @@ impl Machine {
             }
             Op::Add(a, b, c) => {
                 let value = self.register(b).wrapping_add(self.register(c));
-                self.advance();
                 self.set(a, value);
                 Ok(Turn::Running)
             }
             Op::Mul(a, b, c) => {
                 let value = self.register(b).wrapping_mul(self.register(c));
-                self.advance();
                 self.set(a, value);
                 Ok(Turn::Running)
             }
@@ -394,18 +370,15 @@ impl Machine {
                     return Err(Stop::DivideByZero);
                 }
                 let value = self.register(b) / divisor;
-                self.advance();
                 self.set(a, value);
                 Ok(Turn::Running)
             }
             Op::Nand(a, b, c) => {
                 let value = !(self.register(b) & self.register(c));
-                self.advance();
                 self.set(a, value);
                 Ok(Turn::Running)
             }
             Op::Halt => {
-                self.advance();
                 self.halted = true;
                 Ok(Turn::Halted)
             }
@@ -423,73 +396,80 @@ impl Machine {
                     return Err(Stop::OutputTooLarge);
                 }
                 match out.put(&[value as u8]) {
-                    Ok(()) => {
-                        self.advance();
-                        Ok(Turn::Running)
-                    }
+                    Ok(()) => Ok(Turn::Running),
                     Err(Failed) => Err(Stop::WriteFault),
                 }
             }
             Op::Input(c) => match input.next() {
                 Ok(Some(byte)) => {
-                    self.advance();
                     self.set(c, byte as u32);
                     Ok(Turn::Running)
                 }
                 Ok(None) => {
-                    self.advance();
                     self.set(c, u32::MAX);
                     Ok(Turn::Running)
                 }
                 Err(Failed) => Err(Stop::ReadFault),
             },
             Op::Load(b, c) => {
+                let there = self.register(c);
                 self.load(b, c)?;
+                *finger = there;
                 Ok(Turn::Running)
             }
             Op::Set(a, value) => {
-                self.advance();
                 self.set(a, value);
                 Ok(Turn::Running)
             }
         }
     }
 
-    // one cycle, of a machine that may have halted
-    fn step<I: Source, O: Sink>(&mut self, input: &mut I, out: &mut O) -> Result<Turn, Stop>
-        requires cycles { self.old.cycles + 1 < 2 ^ 64 }
+    // one cycle under this finger, which moves; the machine's own and its count of cycles stay
+    fn step<I: Source, O: Sink>(
+        &mut self,
+        finger: &mut u32,
+        input: &mut I,
+        out: &mut O,
+    ) -> Result<Turn, Stop>
         requires running { self.old.halted ≡ false }
         ensures rest { (left : List ℕ) → MayRest (I.rest input.new) left →
-            MayRest (I.rest input.old) (rest_before result (op_under (state_of self.old [] []))
+            MayRest (I.rest input.old) (rest_before result (op_at self.old finger.old)
             (I.rest input.old) self.new.registers left) }
-        ensures row { (left : List ℕ) → MayRest (I.rest input.new) left →
+        ensures row { (cycles : ℕ) (left : List ℕ) → MayRest (I.rest input.new) left →
             (held : List ℕ) → MayHold (O.written out.old) held →
-            AnswersRow (op_under (state_of self.old [] [])) self.new left
+            AnswersRow (op_at self.old finger.old) (placed self.new finger.new (cycles + 1)) left
             (O.written out.old) (O.written out.new)
-            (cycle (state_of self.old (rest_before result (op_under (state_of self.old [] []))
-            (I.rest input.old) self.new.registers left) held)
+            (cycle (state_of (placed self.old finger.old cycles)
+            (rest_before result (op_at self.old finger.old) (I.rest input.old)
+            self.new.registers left) held)
             self.old.limits (next_identifier self.old.identifiers)) result }
         ensures identifiers { OnOk result (self.new.identifiers
-            ≡ identifiers_left (state_of self.old [] []) self.old.identifiers) }
+            ≡ identifiers_left (state_of (placed self.old finger.old 0) [] [])
+            self.old.identifiers) }
         ensures limits { self.new.limits ≡ self.old.limits }
         ensures turn { IfOk result (λ turn. turn ≡ turn_of self.new.halted) }
-        ensures counted { OnOk result (self.new.cycles ≡ self.old.cycles + 1) }
-        ensures kept { OnErr result
-            ((self.new ≡ self.old) × (I.rest input.new ≡ I.rest input.old)) }
-        ensures unasked { is_input (op_under (state_of self.old [] [])) ≡ false →
-            input.new ≡ input.old }
-        ensures unfed { is_output (op_under (state_of self.old [] [])) ≡ false →
-            out.new ≡ out.old }
+        ensures place { (self.new.finger ≡ self.old.finger) × (self.new.cycles ≡ self.old.cycles) }
+        ensures kept { OnErr result ((self.new ≡ self.old) × (finger.new ≡ finger.old)
+            × (I.rest input.new ≡ I.rest input.old)) }
+        ensures unasked { is_input (op_at self.old finger.old) ≡ false → input.new ≡ input.old }
+        ensures unfed { is_output (op_at self.old finger.old) ≡ false → out.new ≡ out.old }
         ensures input { IsAsked I.Source input.old input.new (result ≡ Err Stop.ReadFault) }
         ensures out { IsFed O.Sink out.old out.new (result ≡ Err Stop.WriteFault) }
     {
-        let Some(word) = self.word(0, self.finger) else {
+        let Some(word) = self.word(0, *finger) else {
             return Err(Stop::FingerOutside);
         };
         let Some(op) = decode(word) else {
             return Err(Stop::BadOperator);
         };
-        self.discharge(op, input, out)
+        *finger += 1;
+        match self.discharge(op, finger, input, out) {
+            Ok(turn) => Ok(turn),
+            Err(stop) => {
+                *finger -= 1;
+                Err(stop)
+            }
+        }
     }
 
     /// One cycle by the table: its row's next state, or a fault that leaves the machine as it was. A
@@ -519,9 +499,17 @@ impl Machine {
             self.stays_whole();
             return Ok(Turn::Halted);
         }
-        let turn = self.step(input, out);
-        self.stays_whole();
-        turn
+        let mut finger = self.finger();
+        match self.step(&mut finger, input, out) {
+            Ok(turn) => {
+                self.settle(finger, 1);
+                Ok(turn)
+            }
+            Err(stop) => {
+                self.stays_whole();
+                Err(stop)
+            }
+        }
     }
 
     /// Up to this many cycles: until the machine has halted, or one cycle fails. `Budget` exactly where
@@ -545,20 +533,21 @@ impl Machine {
             self.stays_whole();
             return Stop::Halted;
         }
-        for _ in 0..cycles {
-            match self.step(input, out) {
+        let mut finger = self.finger();
+        for made in 0..cycles {
+            match self.step(&mut finger, input, out) {
                 Ok(Turn::Running) => {}
                 Ok(Turn::Halted) => {
-                    self.stays_whole();
+                    self.settle(finger, made + 1);
                     return Stop::Halted;
                 }
                 Err(stop) => {
-                    self.stays_whole();
+                    self.settle(finger, made);
                     return stop;
                 }
             }
         }
-        self.stays_whole();
+        self.settle(finger, cycles);
         Stop::Budget
     }
 }

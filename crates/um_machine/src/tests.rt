@@ -62,3 +62,33 @@ fn an_array_is_allocated_and_abandoned(rt: HostRuntime) -> Result<(), Fail> {
     assert_eq!(rt; out.bytes(), &b"A"[..]);
     Ok(())
 }
+
+// An Input whose source fails is a cycle that was not made: the next call makes it.
+#[test]
+fn a_failed_input_is_asked_again(rt: HostRuntime) -> Result<(), Fail> {
+    let alloc = rt.alloc();
+    let mut machine = Machine::new(alloc, vec![in alloc; 0xb000_0000]?, LIMITS)?;
+    let mut input = MemSource::new(vec![in alloc; 0x41]?, vec![in alloc; 0]?);
+    let mut out = MemSink::new(alloc, 0, Vec::new(alloc))?;
+    for want in [Err(Stop::ReadFault), Ok(Turn::Running)] {
+        assert!(rt; machine.cycles() < 2);
+        assert_eq!(rt; machine.cycle(&mut input, &mut out), want);
+    }
+    assert_eq!(rt; (machine.cycles(), machine.register(0)), (1, 0x41));
+    Ok(())
+}
+
+// an array is allocated and abandoned a million times: its identifier is handed out again
+#[test]
+fn a_million_arrays_one_after_another(rt: HostRuntime) -> Result<(), Fail> {
+    let alloc = rt.alloc();
+    let words = vec![in alloc; 0x8000_000a, 0x9000_0001, 0xc000_0003]?;
+    let mut machine = Machine::new(alloc, words, LIMITS)?;
+    let mut input = MemSource::new(Vec::new(alloc), Vec::new(alloc));
+    let mut out = MemSink::new(alloc, 0, Vec::new(alloc))?;
+    assert!(rt; machine.cycles() < 2);
+    let stop = machine.run(&mut input, &mut out, 3_000_000);
+    assert_eq!(rt; stop, Stop::Budget);
+    assert_eq!(rt; (machine.register(1), machine.live()), (1, (0, 3)));
+    Ok(())
+}

@@ -1,8 +1,8 @@
 -- What the machine's own calls of one cycle say, by the row of the operator. Public clauses are in Runs.
 use Rattle.std.specs.Prelude.{◌≡◌, ℕ, ◌+◌, ◌⊎◌, List, [], ◌∷◌, Option, Some, None, Result, Ok, Err, OnOk, OnErr, slice_index}
 use Rattle.um_word.specs.declared.op.Op.{Op}
-use Rattle.um_word.specs.declared.op.Op.TheVariants.{Input}
-use Rattle.um_word.specs.Table.{Next, Goes, Stops, row, moved}
+use Rattle.um_word.specs.declared.op.Op.TheVariants.{Input, Load}
+use Rattle.um_word.specs.Table.{Next, Goes, Stops, row, op_under}
 use Rattle.um_word.specs.Rule.{next_identifier, left_by}
 use Rattle.um_machine.specs.declared.stop.Turn.{Turn}
 use Rattle.um_machine.specs.declared.stop.Stop.{Stop}
@@ -10,6 +10,19 @@ use Rattle.um_machine.specs.declared.stop.Stop.TheVariants.{ReadFault, WriteFaul
 use Rattle.um_machine.specs.MachineView.{MachineView, state_of}
 use Rattle.um_machine.specs.Outside.{MayHold}
 use Rattle.um_machine.specs.Stops.{stop_of, turn_of, MayFail}
+
+-- the machine with its finger at this offset, and with this count of cycles
+abbrev pub placed : MachineView → (finger cycles : ℕ) → MachineView
+placed m finger cycles = record m { finger = finger; cycles = cycles }
+
+-- the operator under a finger
+abbrev pub op_at : MachineView → (finger : ℕ) → Option Op
+op_at m finger = op_under (state_of (placed m finger 0) [] [])
+
+-- where an operator leaves the finger that has moved on
+abbrev pub finger_left : Op → MachineView → (finger : ℕ) → ℕ
+finger_left (Load b c) m finger = slice_index m.registers c
+finger_left op m finger = finger
 
 -- a cycle that failed has written nothing, or at a failed Output perhaps its byte
 abbrev pub Wrote : Stop → (nothing byte : Type 0) → Type 0
@@ -40,11 +53,12 @@ AnswersRowAlone op new rest out (Stops fault) (Err stop) = stop ≡ stop_of faul
 
 -- what the call for one operator that asks neither of them answers and leaves
 pub record DoesRow (op : Op) (old new : MachineView) (result : Result (Unit {0}) Stop) : Type 0 where
-  pub row : (rest out : List ℕ) →
-      AnswersRowAlone op new rest out (row op old.limits (next_identifier old.identifiers) (moved (state_of old rest out))) result
+  pub row : (finger cycles : ℕ) (rest out : List ℕ) →
+      AnswersRowAlone op (placed new (finger_left op old finger) cycles) rest out
+      (row op old.limits (next_identifier old.identifiers) (state_of (placed old finger cycles) rest out)) result
   pub identifiers : OnOk result (new.identifiers ≡ left_by (Some op) (state_of old [] []) old.identifiers)
   pub limits : new.limits ≡ old.limits
   pub halted : new.halted ≡ old.halted
-  pub counted : OnOk result (new.cycles ≡ old.cycles + 1)
+  pub place : (new.finger ≡ old.finger) × (new.cycles ≡ old.cycles)
   pub kept : OnErr result (new ≡ old)
   pub inside : (result ≡ Err ReadFault → ⊥) × (result ≡ Err WriteFault → ⊥)

@@ -1,10 +1,10 @@
 use Rattle.std.proofs.Common.{[], refl, sym, ◌∙◌, arith}
-use Rattle.um_word.specs.Table.{op_under}
+use Rattle.std.specs.Prelude.{Ok}
 use Rattle.um_machine.specs.declared.stop.Stop.TheVariants.{Halted}
 use Rattle.um_machine.specs.MachineView.{state_of}
-use Rattle.um_machine.specs.inner.OperatorCalls.{rest_before}
+use Rattle.um_machine.specs.inner.OperatorCalls.{op_at, rest_before}
 use Rattle.um_machine.proofs.Ends.{sent_by, halted_end}
-use Rattle.um_machine.proofs.OneCycle.{cycle_sends, kept_rest}
+use Rattle.um_machine.proofs.Placed.{cycle_made, cycle_failed}
 use Rattle.um_machine.proofs.machine.Machine.cycle.Goals as goal
 
 pub returns-then-halted-clause-row : goal.returns-then-halted-clause-row
@@ -16,11 +16,20 @@ returns-then-halted-clause-row g c left may = record {
       (record { sent = held; holds = holds; stands = refl }) (sym c.halted.ensures ∙ c.if-halted.true));
 }
 
-pub returns-clause-row : goal.returns-clause-row
-returns-clause-row g c left may = record {
-  rest = rest_before c.step-turn.result (op_under (state_of c.args.self.now [] [])) (g.I.Source.rest c.args.input.now) c.step-turn.new.self.registers left;
-  may = c.step-turn.ensures.rest left may;
-  sends = λ held holds. cycle_sends _ _ _ left held c.step-turn.result (sym c.halted.ensures ∙ c.if-halted.false) holds
-      (c.step-turn.ensures.row left may held holds) c.step-turn.ensures.turn c.step-turn.ensures.identifiers
-      (kept_rest c.step-turn.result c.args.self.now c.step-turn.new.self _ _ _ _ left c.step-turn.ensures.kept);
+pub returns-in-Ok-clause-row : goal.returns-in-Ok-clause-row
+returns-in-Ok-clause-row g c left may = record {
+  rest = rest_before (Ok c.in-Ok.turn) (op_at c.args.self.now c.finger-finger.result) (g.I.Source.rest c.args.input.now) c.step.new.self.registers left;
+  may = c.in-Ok.ensures.rest left may;
+  sends = λ held holds. cycle_made c.args.self.now c.step.new.self c.settle.new.self c.finger-finger.result c.step.new.finger _ _ _ _ _ left held c.in-Ok.turn
+      (sym c.halted.ensures ∙ c.if-halted.false) holds c.finger-finger.ensures c.in-Ok.ensures.place.1 c.settle.ensures.placed
+      (c.in-Ok.ensures.row c.args.self.now.cycles left may held holds) c.in-Ok.ensures.turn c.in-Ok.ensures.identifiers;
+}
+
+pub returns-in-Err-clause-row : goal.returns-in-Err-clause-row
+returns-in-Err-clause-row g c left may = record {
+  rest = left;
+  may = c.in-Err.ensures.rest left may;
+  sends = λ held holds. cycle_failed c.args.self.now c.step.new.self c.finger-finger.result c.step.new.finger _ _ _ _ left held c.in-Err.stop
+      (sym c.halted.ensures ∙ c.if-halted.false) holds c.finger-finger.ensures c.in-Err.ensures.kept.0
+      (c.in-Err.ensures.row c.args.self.now.cycles left may held holds);
 }
