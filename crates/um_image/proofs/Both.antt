@@ -1,5 +1,5 @@
 -- Each machine has one image, and each image one machine.
-use Rattle.std.proofs.Common.{◌≡◌, ℕ, ◌+◌, ◌*◌, ◌/◌, ◌%◌, ◌^◌, ◌<◌, ◌≤◌, List, [], ◌∷◌, ◌++◌, length, take, Bool, true, false, refl, sym, ap, subst, ◌∙◌, inl, inr, arith}
+use Rattle.std.proofs.Common.{◌≡◌, ℕ, ◌+◌, ◌*◌, ◌/◌, ◌%◌, ◌^◌, ◌<◌, ◌≤◌, List, [], ◌∷◌, ◌++◌, length, Bool, true, false, refl, sym, ap, subst, ◌∙◌, inl, inr, arith}
 use Rattle.std.specs.Prelude.{slice_index, unwrap_or}
 use Rattle.std.specs.List.{AllByRecursion}
 use Rattle.std.specs.Ordering.{nat_cmp}
@@ -18,12 +18,12 @@ use Rattle.um_machine.specs.MachineView.{MachineView}
 use Rattle.um_machine.specs.MachineParts.{MachineParts, machine_of_parts}
 use Rattle.um_image.specs.Image.{image_mark, two_words, flag, array_words, arrays_up_to, image_words, parts_of_machine, HasImage}
 use Rattle.um_image.specs.Rules.{ImageParts, AreImageParts, KeepsRules}
-use Rattle.um_image.specs.Image.{IsImage, IsBadAt, most_image_bytes}
+use Rattle.um_image.specs.Image.{IsImage, most_image_bytes}
 use Rattle.um_image.specs.Refusals.{RefusesImage}
 use Rattle.um_image.specs.declared.fault.ImageFault.{ImageFault}
 use Rattle.um_image.specs.declared.fault.ImageFault.TheVariants.{TooLong, Bad, Memory}
 use Rattle.um_image.specs.Laws.{ImagesTellApart, ImagesKeepRules}
-use Rattle.um_image.specs.inner.Reading.{IsStuckAt, ReaderStops}
+use Rattle.um_image.specs.inner.Reading.{ReaderStops}
 use Rattle.um_image.proofs.Points.{same_words, words_told, are_words}
 use Rattle.um_image.specs.inner.Head.{AreWords}
 use Rattle.um_image.proofs.Filled.{append_fit, fronts}
@@ -196,18 +196,8 @@ kept_image bytes is =
 pub images_keep_rules : ImagesKeepRules
 images_keep_rules bytes = (image_keeps bytes, kept_image bytes)
 
--- where the rules are broken, no image goes on
-pub stuck_bad : (bytes : List ℕ) (k : ℕ) → IsStuckAt bytes k → IsBadAt bytes k
-stuck_bad bytes k s = record {
-  no_image = λ is. s.none (image_keeps bytes is);
-  of_words = s.of_words;
-  within = s.within;
-  begins = (s.begins.0, kept_image (take k bytes ++ s.begins.0) s.begins.1);
-  longest = λ j parts within b. s.longest j parts within (b.0, image_keeps (take j bytes ++ b.0) b.1);
-}
-
 pub stops_refuses : (bytes : List ℕ) (fault : ImageFault) → length bytes ≤ most_image_bytes → ReaderStops bytes fault →
     RefusesImage bytes fault
 stops_refuses bytes (TooLong count) le s = absurd s
-stops_refuses bytes (Bad k) le s = (le, stuck_bad bytes k s)
+stops_refuses bytes (Bad k) le s = (le, s)
 stops_refuses bytes Memory le s = le

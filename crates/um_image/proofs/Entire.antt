@@ -6,10 +6,10 @@ use Rattle.um_word.specs.Scroll.{scroll}
 use Rattle.array_store.specs.Parts.{Listed}
 use Rattle.um_machine.specs.MachineView.{MachineView, IsWhole}
 use Rattle.um_machine.specs.MachineParts.{MachineParts, AreMachineParts, machine_of_parts}
-use Rattle.um_image.specs.Image.{image_mark, array_words, image_words, image_of, HasImage}
+use Rattle.um_image.specs.Image.{image_mark, array_words, image_words, image_of, HasImage, IsBadAt}
 use Rattle.array_store.specs.StoreView.{most_limits}
-use Rattle.um_image.specs.inner.Reading.{IsStuckAt, so_far, IdsRead, ArraysRead}
-use Rattle.um_image.proofs.Points.{bad_end}
+use Rattle.um_image.specs.inner.Reading.{so_far, IdsRead, ArraysRead}
+use Rattle.um_image.proofs.Places.{bad_end}
 use Rattle.um_image.specs.inner.Head.{AreWords}
 use Rattle.um_image.proofs.Heads.{parts_by, taken_by, head_back}
 use Rattle.um_image.proofs.Stops.{IsSoFar}
@@ -47,7 +47,7 @@ module _ (bytes head ids zeros : List ℕ) (arrays : Listed) (end : ℕ) (h : Is
   }
 
   -- there are more bytes
-  pub end_stops : end < length bytes → IsStuckAt bytes end
+  pub end_stops : end < length bytes → IsBadAt bytes end
   end_stops lt = bad_end (so_far head ids zeros arrays []) (image_ends head ids zeros arrays (slice_index head 14) all_read refl) bytes end a.read lt
 
   parts : MachineParts

@@ -8,7 +8,9 @@ pub mod Told
 pub mod Entire
 pub mod Put
 pub mod Both
+pub mod Places
 pub mod Taking
 pub mod Counted
+pub mod Paced
 pub mod Resumed
 pub mod Short

@@ -11,10 +11,11 @@ use Rattle.array_store.specs.Parts.{Listed, is_among, active_up_to}
 use Rattle.array_store.proofs.PartLemmas.{words_in-append}
 use Rattle.um_image.specs.declared.fault.ImageFault.{ImageFault}
 use Rattle.um_image.specs.declared.fault.ImageFault.TheVariants.{TooLong, Bad, Memory}
-use Rattle.um_image.specs.Image.{image_mark, array_words}
-use Rattle.um_image.specs.inner.Reading.{IsStuckAt, HasWordAt, HasNone, ReaderStops, so_far, HeadRead, IdsRead, ZeroRead, ArraysRead, ArrayRead, ArrayStops}
+use Rattle.um_image.specs.Image.{image_mark, array_words, IsBadAt}
+use Rattle.um_image.specs.inner.Reading.{HasWordAt, HasNone, ReaderStops, so_far, HeadRead, IdsRead, ZeroRead, ArraysRead, ArrayRead, ArrayStops}
 use Rattle.um_image.specs.inner.Head.{AreWords}
-use Rattle.um_image.proofs.Points.{bad, none_by_end, one_more}
+use Rattle.um_image.proofs.Points.{none_by_end, one_more}
+use Rattle.um_image.proofs.Places.{bad}
 use Rattle.um_image.proofs.Filled.{append_fit, array_words-append}
 use Rattle.um_image.proofs.Stops.{IsSoFar, so_far-append}
 use Rattle.um_image.proofs.Goes.{IsHead, AreIds, IsSize, IsAny, size_goes_on, zero_goes_on, id_goes_on, array_size_goes_on, array_goes_on}
@@ -79,7 +80,7 @@ module _ (bytes head ids : List ℕ) (h : IsHead head) (i : IdsRead bytes head i
   zero_stops (TooLong count) s = s
   zero_stops Memory s = tt
   zero_stops (Bad k) (inl s) =
-      subst (IsStuckAt bytes) (sym s.place) (bad (image_mark ∷ (head ++ ids)) (IsSize 0) (size_goes_on head ids h (are_ids bytes head ids i)) bytes at i.read i.within
+      subst (IsBadAt bytes) (sym s.place) (bad (image_mark ∷ (head ++ ids)) (IsSize 0) (size_goes_on head ids h (are_ids bytes head ids i)) bytes at i.read i.within
       (λ w has rule. s.none w has (omega (arith, rule))))
   zero_stops (Bad k) (inr s) =
       let fits = s.fits in
@@ -127,7 +128,7 @@ module _ (bytes head ids zeros : List ℕ) (arrays : Listed) (n place : ℕ) (h 
     active = let next : n + 1 ≡ suc n = omega arith in ap (is_among ids) (sym next) ∙ new
 
     -- the identifier is missing
-    pub id_stops : HasNone bytes place (λ w. w ≡ n + 1) → IsStuckAt bytes place
+    pub id_stops : HasNone bytes place (λ w. w ≡ n + 1) → IsBadAt bytes place
     id_stops none =
         bad (so_far head ids zeros arrays []) (λ w. w ≡ suc n) (id_goes_on head ids zeros arrays n so_far_of lt active) bytes place a.read a.within
         (λ w has rule. none w has (omega (arith, rule)))
@@ -145,7 +146,7 @@ module _ (bytes head ids zeros : List ℕ) (arrays : Listed) (n place : ℕ) (h 
         array_stops Memory s = tt
         array_stops (Bad k) (inl s) =
             let within = has.0 in
-            subst (IsStuckAt bytes) (sym s.place)
+            subst (IsBadAt bytes) (sym s.place)
             (bad (so_far head ids zeros arrays (suc n ∷ [])) (IsSize (length zeros + words_in arrays))
             (array_size_goes_on head ids zeros arrays n so_far_of lt active) bytes (place + 4) id_read within
             (λ w has rule. s.none w has (omega (arith, rule, counted))))

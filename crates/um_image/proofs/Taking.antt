@@ -28,7 +28,7 @@ pub record Takes (s t : State) (count : ℕ) : Type 0 where
   pub cycles : s.cycles + count ≤ t.cycles
 
 -- what the row of an operator keeps of the input and of the cycles
-abbrev Keeps : Op → State → State → Type 0
+abbrev pub Keeps : Op → State → State → Type 0
 Keeps (Input c) s t = t ≡ with_byte c s.rest s
 Keeps op s t = (t.rest ≡ s.rest) × (t.cycles ≡ s.cycles)
 
@@ -46,7 +46,7 @@ if_keeps true s t u f g = f
 if_keeps false s t u f g = g
 
 module _ (L : Limits) (id : ℕ) where
-  row_keeps : (op : Op) (s : State) → OnGoes (row op L id s) (Keeps op s)
+  pub row_keeps : (op : Op) (s : State) → OnGoes (row op L id s) (Keeps op s)
   row_keeps (Move a b c) s = if_keeps (reg s c == 0) s (with_reg s a (reg s b)) s (refl, refl) (refl, refl)
   row_keeps (Index a b c) s = on_some (map.get s.arrays (reg s b)) _ _ (Keeps (Index a b c) s) (λ words. on_some (slice_get words (reg s c)) _ _ (Keeps (Index a b c) s) (λ word. (refl, refl)))
   row_keeps (Amend a b c) s = on_some (map.get s.arrays (reg s a)) _ _ (Keeps (Amend a b c) s) (λ words. on_some (slice_get words (reg s b)) _ _ (Keeps (Amend a b c) s) (λ word. (refl, refl)))
@@ -87,7 +87,7 @@ byte_takes c (b ∷ rest) s t u within e r n is =
     small true = omega arith
     small false = omega arith
 
-same_goes : (s t : State) → Goes s ≡ Goes t → s ≡ t
+pub same_goes : (s t : State) → Goes s ≡ Goes t → s ≡ t
 same_goes s t e = let h : Goes s ≡ Goes t = e in cc
 
 op_takes : (L : Limits) (id : ℕ) (op : Op) (u t : State) → row op L id (moved u) ≡ Goes t →
@@ -133,7 +133,7 @@ one_goes L i s t new stop running sound e =
 pub none_taken : (s t : State) → t.rest ≡ s.rest → t.cycles ≡ s.cycles → Takes s t 0
 none_taken s t r n = record { gone = []; split = sym r; given = refl; cycles = omega (arith, n) }
 
-bytes_in-append : (xs ys : List ℕ) → bytes_in (xs ++ ys) ≡ bytes_in xs + bytes_in ys
+pub bytes_in-append : (xs ys : List ℕ) → bytes_in (xs ++ ys) ≡ bytes_in xs + bytes_in ys
 bytes_in-append [] ys = let e : bytes_in ys ≡ 0 + bytes_in ys = omega arith in e
 bytes_in-append (x ∷ xs) ys =
     ap (λ n. (if nat_lt x 256 then 1 else 0) + n) (bytes_in-append xs ys) ∙ grouped (if nat_lt x 256 then 1 else 0) (bytes_in xs) (bytes_in ys)

@@ -60,3 +60,14 @@ ResumedRunsGoOn =
     RunEnds m read now (state_of read (drop count input) []) (state_of now rest more) stop →
     IsOwnEnd stop →
     RunEnds (n + m) first now (state_of first input []) (state_of now rest (out ++ more)) stop
+
+-- Where the second run is saved too, both together are one saved run, which took the bytes of both: so
+-- a run may be cut at as many places as one likes.
+abbrev pub ResumedRunsJoin : Type 0
+ResumedRunsJoin =
+    (n m taken count given : ℕ) (first saved read now : MachineView)
+    (input left out rest more : List ℕ) →
+    All (λ byte. byte < 256) input → SavedRun n first saved input left out taken →
+    HasImage read count → image_of read count ≡ image_of saved taken →
+    SavedRun m read now (drop count input) rest more given →
+    SavedRun (n + m) first now input rest (out ++ more) (count + given)

@@ -3,7 +3,7 @@ ghost use Rattle.std.specs.Prelude.{◌≡◌};
 ghost use Rattle.um_machine.specs.MachineParts.{most_saved_cycles};
 ghost use Rattle.um_image.specs.Image.{image_mark, most_image_bytes};
 ghost use Rattle.um_image.specs.inner.Head.{head_length};
-ghost use Rattle.um_image.specs.Laws.{ImagesTellApart, ImagesKeepRules, ImagesAreShort, ResumedRunsGoOn};
+ghost use Rattle.um_image.specs.Laws.{ImagesTellApart, ImagesKeepRules, ImagesAreShort, ResumedRunsGoOn, ResumedRunsJoin};
 
 use crate::numbers::{HEAD_LENGTH, IMAGE_MARK, MOST_IMAGE_BYTES, MOST_SAVED_CYCLES};
 
@@ -35,4 +35,9 @@ pub fn images_are_short()
 /// to run `n + m` cycles.
 pub fn resumed_runs_go_on()
     ensures { ResumedRunsGoOn }
+{}
+
+/// And where the second run is saved too, both are one saved run: it may be cut at many places.
+pub fn resumed_runs_join()
+    ensures { ResumedRunsJoin }
 {}

@@ -1,5 +1,5 @@
 -- What the reader of an image finds, and where it stops.
-use Rattle.std.specs.Prelude.{◌≡◌, ◌⊎◌, ℕ, ◌+◌, ◌*◌, ◌%◌, ◌^◌, ◌<◌, ◌≤◌, List, [], ◌∷◌, ◌++◌, length, take, map, All, nat_eq}
+use Rattle.std.specs.Prelude.{◌≡◌, ◌⊎◌, ℕ, ◌+◌, ◌*◌, ◌^◌, ◌<◌, ◌≤◌, List, [], ◌∷◌, ◌++◌, length, take, map, All, nat_eq}
 use Rattle.std.specs.Int.{w32, to_be_bytes}
 use Rattle.std.specs.List.{IsDistinct}
 use Rattle.um_word.specs.State.{words_in}
@@ -8,21 +8,8 @@ use Rattle.array_store.specs.StoreView.{most_live_words}
 use Rattle.array_store.specs.Parts.{Listed, active_up_to}
 use Rattle.um_image.specs.declared.fault.ImageFault.{ImageFault}
 use Rattle.um_image.specs.declared.fault.ImageFault.TheVariants.{TooLong, Bad, Memory}
-use Rattle.um_image.specs.Image.{image_mark, array_words}
-use Rattle.um_image.specs.Rules.{KeepsRules}
+use Rattle.um_image.specs.Image.{image_mark, array_words, IsBadAt}
 use Rattle.um_image.specs.inner.Head.{AreWords, HeadFits, head_length, made_in, count_in}
-
--- some words that keep the rules begin with these bytes
-abbrev pub BeginsRules : List ℕ → Type 0
-BeginsRules bytes = (more : List ℕ) × KeepsRules (bytes ++ more)
-
--- `IsBadAt`, in terms of the rules
-pub record IsStuckAt (bytes : List ℕ) (k : ℕ) : Type 0 where
-  pub none : KeepsRules bytes → ⊥
-  pub of_words : k % 4 ≡ 0
-  pub within : k ≤ length bytes
-  pub begins : BeginsRules (take k bytes)
-  pub longest : (j : ℕ) → j % 4 ≡ 0 → j ≤ length bytes → BeginsRules (take j bytes) → j ≤ k
 
 -- this word stands at this place
 abbrev pub HasWordAt : List ℕ → (at word : ℕ) → Type 0
@@ -37,7 +24,7 @@ HasNone bytes at R = (w : ℕ) → HasWordAt bytes at w → R w → ⊥
 -- why the reader stopped, below the most bytes
 abbrev pub ReaderStops : List ℕ → ImageFault → Type 0
 ReaderStops bytes (TooLong count) = ⊥
-ReaderStops bytes (Bad k) = IsStuckAt bytes k
+ReaderStops bytes (Bad k) = IsBadAt bytes k
 ReaderStops bytes Memory = Unit {0}
 
 -- the words of an image that is begun, from its first word on

@@ -8,7 +8,8 @@ use Rattle.um_word.specs.Scroll.{scroll}
 use Rattle.array_store.specs.Parts.{is_among}
 use Rattle.array_store.proofs.PartLemmas.{distinct-push}
 use Rattle.um_image.specs.Image.{image_mark}
-use Rattle.um_image.proofs.Points.{bad, none_by_end, none_by_word, one_more}
+use Rattle.um_image.proofs.Points.{none_by_end, none_by_word, one_more}
+use Rattle.um_image.proofs.Places.{bad}
 use Rattle.um_image.proofs.Stops.{once_none}
 use Rattle.um_image.proofs.Goes.{IsNew, ids_go_on}
 use Rattle.um_image.proofs.Sections.{is_head, seen_more}

@@ -3,7 +3,8 @@ use Rattle.std.proofs.lemmas.List.{take_more, take-set-le, get_or-set_same, get_
 use Rattle.std.proofs.lemmas.Bool.{true≢false}
 use Rattle.um_word.specs.Scroll.{scroll}
 use Rattle.um_image.specs.Image.{image_mark}
-use Rattle.um_image.proofs.Points.{bad, none_by_end, none_by_word, one_more, set_fit}
+use Rattle.um_image.proofs.Points.{none_by_end, none_by_word, one_more, set_fit}
+use Rattle.um_image.proofs.Places.{bad}
 use Rattle.um_image.proofs.Stops.{GoesInHead, head_goes_on, zero_words, zero_fits, zeros_at}
 use Rattle.um_image.proofs.reading.read_head.Goals as goal
 

@@ -1,5 +1,6 @@
 use Rattle.std.proofs.Common.{[], refl, arith}
-use Rattle.um_image.proofs.Points.{bad, none_by_end, none_by_word}
+use Rattle.um_image.proofs.Points.{none_by_end, none_by_word}
+use Rattle.um_image.proofs.Places.{bad}
 use Rattle.um_image.proofs.Stops.{IsMark, first_goes_on}
 use Rattle.um_image.proofs.reading.read_mark.Goals as goal
 
