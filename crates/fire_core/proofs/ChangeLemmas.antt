@@ -178,43 +178,6 @@ kind-same T U e k (inl same) = ap (λ (x : Instance). x.kind) same.is
 kind-same T U e k (inr (inl told)) = ap (λ (x : Instance). x.kind) told.is
 kind-same T U e k (inr (inr over)) = ap (λ (x : Instance). x.kind) over.is
 
--- an end starts no instance
-pub length-end : (P : Program) (T : Table) (i : ℕ) → length (step P T (End i)) ≡ length T
-unfolding step
-length-end P T i = by (instance_at T i).parent
-  where
-    o : Outcome
-    o = end_of P (instance_at T i)
-
-    V : Table
-    V = slice_set T i (ended (instance_at T i) o)
-
-    by : (p : Option (ℕ × ℕ)) → length (deliver V p o) ≡ length T
-    by None = length-set T i (ended (instance_at T i) o)
-    by (Some p) = length-set V p.0 (with_cell (instance_at V p.0) p.1 (returned (instance_at V p.0).kind p.1 o)) ∙ length-set T i (ended (instance_at T i) o)
-
--- what a box starts is an instance of the module that its command names
-pub starts-of : (P : Program) (x : Instance) (b : ℕ) (row : BoxForm) (m : ℕ) (a : Inputs) → box_at P x.kind b ≡ Some row → firing P x b ≡ Some (Starts m a) →
-    (a' : Inputs) × (effect_of P x.kind b row.command a' ≡ Starts m a)
-starts-of P x b row m a is acts =
-    let here : option_map (effect_of P x.kind b row.command) (inputs_of (wires x) row) ≡ Some (Starts m a) = rw is at acts in
-    let (inputs, there, effect) = option_map_some (effect_of P x.kind b row.command) (inputs_of (wires x) row) (Starts m a) here in
-    (inputs, effect)
-
-pub room-fire : (P : Program) (T : Table) (i b n : ℕ) → is_ready P T (Fire i b) ≡ true →
-    ((m : ℕ) (a : Inputs) → firing P (instance_at T i) b ≡ Some (Starts m a) → box_count P m ≤ n) →
-    length T < length (step P T (Fire i b)) → box_count P (instance_at (step P T (Fire i b)) (length T)).kind ≤ n
-room-fire P T i b n ready few =
-    let (x, can) = can_fire-ready P T i b ready in rw (step-fire P T i b x can) (by x can.acts)
-  where
-    by : (x : Effect) → firing P (instance_at T i) b ≡ Some x → length T < length (fire P T i b (Some x)) → box_count P (instance_at (fire P T i b (Some x)) (length T)).kind ≤ n
-    by (Done c) acts more = absurd (omega (arith, more, length-set T i (with_cell (instance_at T i) b c)))
-    by (Starts m a) acts more =
-        let V = set_cell T i b quiet in
-        let y = begun P m (Some (i, b)) a in
-        let is : instance_at (V ++ y ∷ []) (length T) ≡ y = get_or_push V y nobody (length T) (length-set T i (with_cell (instance_at T i) b quiet)) in
-        rw is (few m a acts)
-
 -- a box that is ready is one of its module
 pub fires-box : (P : Program) (T : Table) (i b : ℕ) → is_ready P T (Fire i b) ≡ true → b < box_count P (instance_at T i).kind
 fires-box P T i b ready = let (x, can) = can_fire-ready P T i b ready in act_there P (instance_at T i).kind (wires (instance_at T i)) b x can.acts

@@ -4,7 +4,7 @@ use Rattle.std.proofs.Common.{refl, sym, ◌∙◌, ap, subst, arith, inl, inr}
 use Rattle.std.proofs.lemmas.Bool.{cases_eq, cases_lt}
 use Rattle.std.proofs.lemmas.Option.{some_pair_parts}
 use Rattle.mark_list.specs.Marks.{at, is_marked}
-use Rattle.ready_marks.specs.Slots.{SlotsView, AreReady, boxes_of, marked_event}
+use Rattle.ready_marks.specs.Slots.{SlotsView, AreReady, boxes_of, marked_event, IsRightAt}
 use Rattle.ready_marks.specs.Ways.{WaysForm, AreWaysOf, Leads}
 use Rattle.ready_marks.proofs.MarkedReady.{event-box, event-end}
 use Rattle.ready_marks.proofs.Touched.{IsApart, can_fire-apart}
@@ -16,7 +16,7 @@ use Rattle.two_d.specs.Steps.{Table, Instance, Event, Fire, End, instance_at, is
 use Rattle.two_d.proofs.Below.{all_below-at}
 use Rattle.two_d.proofs.Ending.{over-ready}
 use Rattle.fire_core.specs.Kept.{KeptView, IsKeptOf, AreAllWays, ways_at}
-use Rattle.fire_core.specs.inner.Changes.{maker_of, told_by, HasRoom, IsRightAt, IsNear, IsDueAt, IsDue, IsUnsetPast, AreBoxesRight, AreRightOf, StaysRight, KeepsRight, ways_in}
+use Rattle.fire_core.specs.inner.Changes.{maker_of, told_by, HasRoom, IsNear, IsDueAt, IsDue, IsUnsetPast, AreBoxesRight, AreRightOf, StaysRight, KeepsRight, ways_in}
 use Rattle.fire_core.specs.inner.Instances.{inner_count}
 use Rattle.fire_core.specs.inner.Ready.{is_quiet}
 use Rattle.fire_core.proofs.ChangeLemmas.{IsSame, HasTold, HasEnded, BecomesOf, IsChange, is_change, kind-same, fires-box}
@@ -24,7 +24,7 @@ use Rattle.fire_core.proofs.EndLemmas.{can_end}
 use Rattle.fire_core.proofs.MarkLemmas.{may_fire}
 use Rattle.fire_core.proofs.ReadyLemmas.{alone-count}
 use Rattle.fire_core.proofs.RightLemmas.{ready-from}
-use Rattle.fire_core.proofs.StateLemmas.{state_sound, kinds_fit}
+use Rattle.fire_core.proofs.StateLemmas.{state_sound, state-step, kinds_fit}
 
 -- whether the end of an instance is ready that has so many inner ones
 abbrev pub end_by : Program → Instance → ℕ → Bool
@@ -76,13 +76,13 @@ ready-ended P T U k d o is ready lt =
     off-is false e = refl
 
 -- no wire leads from box b to box d where none is noted
-apart-from : (m : ModuleForm) (ways : WaysForm) (b d : ℕ) (row : BoxForm) → AreWaysOf m ways → d < length m.boxes → slice_get m.boxes d ≡ Some row →
+apart-from : (m : ModuleForm) (ways : WaysForm) (b d : ℕ) (row : BoxForm) → AreWaysOf m ways → slice_get m.boxes d ≡ Some row →
     (Leads ways.south b d → ⊥) → (Leads ways.east b d → ⊥) → IsApart b row
-apart-from m ways b d row are lt there south east = record {
-  n_south = λ e. south (are.south d b lt (row, there, inl e));
-  n_east = λ e. east (are.east d b lt (row, there, inl e));
-  w_south = λ e. south (are.south d b lt (row, there, inr e));
-  w_east = λ e. east (are.east d b lt (row, there, inr e));
+apart-from m ways b d row are there south east = record {
+  n_south = λ e. south (are.south d b (inl (row, there, e)));
+  n_east = λ e. east (are.east d b (inl (row, there, e)));
+  w_south = λ e. south (are.south d b (inr (row, there, e)));
+  w_east = λ e. east (are.east d b (inr (row, there, e)));
 }
 
 -- box d isn't b, and no wire that is noted leads to it
@@ -117,7 +117,7 @@ ready-far P T U ways k b d c is are lt far =
     ready-fire P U k d
     ∙ (ap (λ (x : Instance). is_live x && can_fire P x d) is
     ∙ (ap (λ t. is_live (instance_at T k) && t)
-    (can_fire-apart (instance_at T k) b c P d far.other (λ row there. apart-from (module_at P (instance_at T k).kind) ways b d row are lt there far.south far.east))
+    (can_fire-apart (instance_at T k) b c P d far.other (λ row there. apart-from (module_at P (instance_at T k).kind) ways b d row are there far.south far.east))
     ∙ sym (ready-fire P T k d)))
 
 module _ (P : Program) (T U : Table) (kept : KeptView) (e : Event) (ready : is_ready P T e ≡ true) (of : IsKeptOf P T kept) where
@@ -170,10 +170,10 @@ told-there P T (End j) good state ready i b is =
     let lt : i < length T = omega (arith, can.within, parent.earlier) in
     (lt, omega (arith, parent.has, sound.sized i lt))
 
-pub due-step : (P : Program) (T U : Table) (kept : KeptView) (e : Event) (told : Option (ℕ × ℕ)) (n boxes : ℕ) → IsGood P → IsStateOf P T → is_ready P T e ≡ true → IsKeptOf P T kept →
-    U ≡ step P T e → told ≡ told_by T e → n ≡ length T → HasRoom n boxes kept.slots → (length T < length (step P T e) → boxes_of P (step P T e) (length T) ≤ boxes) →
+pub due-step : (P : Program) (T U : Table) (kept : KeptView) (e : Event) (told : Option (ℕ × ℕ)) (n : ℕ) → IsGood P → IsStateOf P T → is_ready P T e ≡ true → IsKeptOf P T kept →
+    U ≡ step P T e → told ≡ told_by T e → n ≡ length T → HasRoom n kept.most kept.slots →
     IsDue P U kept e told n
-due-step P T U kept e told n boxes good state ready of is tells all room enough = record {
+due-step P T U kept e told n good state ready of is tells all room = record {
   spread = record {
     sized = rw all of.slots.starts.sized;
     first = of.slots.starts.first;
@@ -184,9 +184,10 @@ due-step P T U kept e told n boxes good state ready of is tells all room enough 
   low = rw (all, is) change.low;
   high = rw (all, is) change.high;
   room = λ more.
-      let most : boxes_of P U n ≤ boxes = rw (is, all) (enough (omega (arith, more, all, ap length is))) in
+      let most : boxes_of P U n ≤ kept.most = of.most.all (instance_at U n).kind (kinds_fit P U good after n more) in
       (room.0, omega (arith, room.1, most));
   ways = of.ways;
+  most = of.most;
   maker_there = rw all (maker-there P T e good state ready);
   told_there = λ i b here.
       let (lt, below) = told-there P T e good state ready i b (sym tells ∙ here) in
@@ -194,6 +195,9 @@ due-step P T U kept e told n boxes good state ready of is tells all room enough 
   marks = λ i d lt le. let below : i < length T = omega arith in rw tells (due-mark P T U kept e ready of i d below (kinds_fit P T good state i below) (each i below) le);
 }
   where
+    after : IsStateOf P U
+    after = subst (IsStateOf P) (sym is) (state-step P T e state ready)
+
     change : IsChange T (step P T e) e
     change = is_change P T e good state ready
 

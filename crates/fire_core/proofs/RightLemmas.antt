@@ -4,7 +4,7 @@ use Rattle.std.proofs.Common.{refl, sym, ◌∙◌, ap, subst, arith, inl, inr}
 use Rattle.std.proofs.lemmas.Bool.{cases_eq, cases_lt}
 use Rattle.std.proofs.lemmas.List.{get_or-set_same, get_or-set_other, get_or-map, length-set, length-map}
 use Rattle.mark_list.specs.Marks.{at, is_marked}
-use Rattle.ready_marks.specs.Slots.{SlotsView, AreReady, boxes_of, marked_event}
+use Rattle.ready_marks.specs.Slots.{SlotsView, AreReady, boxes_of, marked_event, IsRightAt}
 use Rattle.ready_marks.specs.Ways.{WaysForm, AreWaysOf, ways_form}
 use Rattle.ready_marks.specs.declared.ways.Ways.{Ways}
 use Rattle.two_d.specs.declared.module.Module.{Module}
@@ -12,7 +12,7 @@ use Rattle.two_d.specs.Programs.{Program, ModuleForm, module_at, module_of, modu
 use Rattle.two_d.specs.Sound.{IsSound}
 use Rattle.two_d.specs.Steps.{Table, is_ready}
 use Rattle.fire_core.specs.Kept.{AreAllWays, no_ways, ways_at}
-use Rattle.fire_core.specs.inner.Changes.{AreSpread, HasRoom, IsUnsetPast, IsRightAt, AreBoxesRight, AreRightOf, StaysRight, KeepsRight, IsNear}
+use Rattle.fire_core.specs.inner.Changes.{AreSpread, HasRoom, IsUnsetPast, AreBoxesRight, AreRightOf, StaysRight, KeepsRight, IsNear}
 
 module _ (P : Program) (T : Table) (n : ℕ) (slots : SlotsView) (is : AreSpread P T n slots) where
   later : (i j : ℕ) → i < j → j ≤ n → at slots.starts i + boxes_of P T i + 1 ≤ at slots.starts j

@@ -10,7 +10,7 @@ ghost use Rattle.fire_core.specs.Events.{event_of, events_shown};
 
 use crate::event::Event;
 use crate::instances::Instances;
-use crate::kept::{Kept, room, told_by};
+use crate::kept::{Kept, told_by};
 use crate::ready::add_ready;
 use codex_values::ValueStore;
 use std::alloc::Global;
@@ -80,7 +80,7 @@ impl Core {
     }
 
     /// The ready event at a place of their list. Time by the logarithm of the number of instances and one
-    /// 262,144th of the boxes of all that were started, and it takes no memory.
+    /// 1,048,576th of the boxes of all that were started, and it takes no memory.
     pub fn ready_at(&self, program: &Program, k: usize) -> Event
         requires core { IsCoreOf program.now self.now }
         requires there { k < length (steps.ready program.now self.now.table) }
@@ -106,8 +106,7 @@ impl Core {
         let _modules = program.modules();
         let before = self.instances.len();
         let told = told_by(&self.instances, event);
-        let boxes = room(program, &self.instances, event);
-        self.kept.reserve(before, boxes)?;
+        self.kept.reserve(before)?;
         self.instances.step(program, event)?;
         self.kept
             .renew(program, &self.instances, event, told, before);

@@ -2,18 +2,17 @@
 
 ghost use Rattle.std.specs.Prelude.{◌≡◌, ◌<◌, ◌≤◌, ◌+◌, ◌^◌, ◌==◌, ◌&&◌, ◌⊎◌, ℕ, [], List, Some, not, length, map, slice_get, true, IfOk, OnOk};
 ghost use Rattle.codex_values.specs.Value.{Value};
-ghost use Rattle.mark_list.specs.Marks.{at, is_marked};
-ghost use Rattle.ready_marks.specs.Slots.{boxes_of};
+ghost use Rattle.mark_list.specs.Marks.{at};
+ghost use Rattle.ready_marks.specs.Slots.{IsRightAt, boxes_of, mark_at};
 ghost use Rattle.ready_marks.specs.Ways.{ways_form};
 ghost use Rattle.two_d.specs.Meaning as mean;
 ghost use Rattle.two_d.specs.Programs.{Program, box_count};
 ghost use Rattle.two_d.specs.Steps as steps;
 ghost use Rattle.two_d.specs.Steps.{IsStateOf, Table, is_live};
 ghost use Rattle.two_d.specs.Trails.{Trail};
-ghost use Rattle.two_d.specs.Trees.{form_of};
 ghost use Rattle.fire_core.specs.Events.{event_of};
-ghost use Rattle.fire_core.specs.Kept.{AreAllWays, IsKeptOf};
-ghost use Rattle.fire_core.specs.inner.Changes.{AreBoxesRight, AreRightOf, AreSpread, HasRoom, IsDue, IsNear, IsRightAt, IsUnsetPast, KeepsRight, StaysRight, maker_of, ways_in};
+ghost use Rattle.fire_core.specs.Kept.{AreAllWays, IsKeptOf, IsMost};
+ghost use Rattle.fire_core.specs.inner.Changes.{AreBoxesRight, AreRightOf, AreSpread, HasRoom, IsDue, IsNear, IsUnsetPast, KeepsRight, StaysRight, maker_of, ways_in};
 ghost use Rattle.fire_core.specs.inner.Changes as changes;
 ghost use Rattle.fire_core.specs.inner.Rows.{instance_in, row_of};
 
@@ -24,14 +23,15 @@ use crate::rows::Row;
 use ready_marks::{Slots, Ways, all_ways};
 use std::alloc::Global;
 use std::marker::Model;
-use two_d::{Command, Program};
+use two_d::Program;
 use umix_base::Memory;
 
-/// The marks of what is ready, and for each module where its wires lead.
+/// The marks of what is ready, for each module where its wires lead, and how many boxes the largest has.
 #[derive(Drop)]
 pub(crate) struct Kept {
     slots: Slots,
     ways: Vec<Ways>,
+    most: usize,
 }
 
 impl Model for Kept {
@@ -39,7 +39,7 @@ impl Model for Kept {
 
     ghost Value = { KeptView };
 
-    ghost view = { λ kept. kept_view kept.slots kept.ways.items };
+    ghost view = { λ kept. kept_view kept.slots kept.ways.items kept.most };
 }
 
 impl Kept {
@@ -59,7 +59,8 @@ impl Kept {
         slots.reserve(0, module_size(program, row.kind))?;
         let ways = all_ways(alloc, modules)?;
         add(&mut slots, program, instances, 0);
-        Ok(Kept { slots, ways })
+        let most = most_boxes(program);
+        Ok(Kept { slots, ways, most })
     }
 
     /// How many events are ready.
@@ -83,15 +84,14 @@ impl Kept {
         }
     }
 
-    /// Makes room for one more instance, with so many boxes at most. What is ready stays.
-    pub(crate) fn reserve(&mut self, instances: usize, boxes: usize) -> Result<(), Memory>
+    /// Makes room for one more instance, whatever its module. What is ready stays.
+    pub(crate) fn reserve(&mut self, instances: usize) -> Result<(), Memory>
         requires there { (P : Program) × (T : Table) × IsKeptOf P T self.old × (length T ≡ instances) }
-        requires few { boxes < 2 ^ 32 }
         requires instances { instances < 2 ^ 63 }
         ensures kept { (P : Program) (T : Table) → length T ≡ instances → IsKeptOf P T self.old → IsKeptOf P T self.new }
-        ensures ok { OnOk result (HasRoom instances boxes self.new.slots) }
+        ensures ok { OnOk result (HasRoom instances self.new.most self.new.slots) }
     {
-        self.slots.reserve(instances, boxes)
+        self.slots.reserve(instances, self.most)
     }
 
     /// Looks again at all that an event has changed: there were so many instances, and a box may have come
@@ -279,7 +279,7 @@ fn can_end(slots: &Slots, row: &Row, number: usize, boxes: usize) -> bool
     requires there { number < length slots.now.starts }
     requires within { at slots.now.starts number + boxes ≤ length slots.now.marks }
     ensures { (values : List Value) (trails : List Trail) → result ≡ (is_live (instance_in values trails (row_of row.now))
-        && (mean.all_below boxes (λ b. not (is_marked slots.now.marks (at slots.now.starts number + b))) && (row.now.inner == 0))) }
+        && (mean.all_below boxes (λ b. not (mark_at slots.now number b)) && (row.now.inner == 0))) }
 {
     row.outcome.is_none() && row.inner == 0 && slots.is_quiet(number, boxes)
 }
@@ -295,35 +295,6 @@ pub(crate) fn told_by(instances: &Instances, event: Event) -> Option<(usize, usi
     }
 }
 
-/// How many boxes the instance has at most that an event starts, if it starts one.
-pub(crate) fn room(program: &Program, instances: &Instances, event: Event) -> usize
-    requires state { IsStateOf program.now instances.now.table }
-    requires ready { steps.is_ready program.now instances.now.table (event_of event) ≡ true }
-    ensures enough { length instances.now.table < length (steps.step program.now instances.now.table (event_of event))
-        → boxes_of program.now (steps.step program.now instances.now.table (event_of event)) (length instances.now.table) ≤ result }
-    ensures small { result < 2 ^ 32 }
-{
-    match event {
-        Event::Fire(number, bx) => room_of_fire(program, instances, number as usize, bx as usize),
-        Event::End(_) => 0,
-    }
-}
-
-fn room_of_fire(program: &Program, instances: &Instances, number: usize, bx: usize) -> usize
-    requires state { IsStateOf program.now instances.now.table }
-    requires ready { steps.is_ready program.now instances.now.table (steps.Fire number bx) ≡ true }
-    ensures enough { length instances.now.table < length (steps.step program.now instances.now.table (steps.Fire number bx))
-        → boxes_of program.now (steps.step program.now instances.now.table (steps.Fire number bx)) (length instances.now.table) ≤ result }
-    ensures small { result < 2 ^ 32 }
-{
-    let modules = program.modules();
-    let row = instances.row(number);
-    let kind = row.kind;
-    let module = &modules[kind];
-    let form = &module.boxes[bx];
-    started(program, &form.command)
-}
-
 /// How many boxes a module has.
 fn module_size(program: &Program, kind: usize) -> usize
     requires { kind < length program.now }
@@ -333,17 +304,24 @@ fn module_size(program: &Program, kind: usize) -> usize
     program.modules()[kind].boxes.len()
 }
 
-/// How many boxes the module has that a box with this command starts an instance of.
-fn started(program: &Program, command: &Command) -> usize
-    ensures boxes { (m b k : ℕ) (a a' : mean.Inputs) → mean.effect_of program.now m b (form_of command.now) a ≡ mean.Starts k a'
-        → box_count program.now k ≤ result }
-    ensures small { result < 2 ^ 32 }
+/// How many boxes the largest module has.
+fn most_boxes(program: &Program) -> usize
+    ensures { IsMost program.now result }
 {
-    match command {
-        Command::Call(name) => match program.find(name) {
-            Some(kind) => module_size(program, kind),
-            None => 0,
-        },
-        _ => 0,
+    let modules = program.modules();
+    let mut most = 0;
+    for kind in 0..modules.len() {
+        let size = module_size(program, kind);
+        most = larger(most, size);
     }
+    most
+}
+
+/// The larger of two numbers.
+fn larger(a: usize, b: usize) -> usize
+    ensures first { a ≤ result }
+    ensures second { b ≤ result }
+    ensures few { (n : ℕ) → a < n → b < n → result < n }
+{
+    if a < b { b } else { a }
 }

@@ -1,25 +1,30 @@
-ghost use Rattle.std.specs.Prelude.{◌≡◌, ◌<◌, ◌≤◌, ℕ, [], length, true, OnOk, slice_set};
+ghost use Rattle.std.specs.Prelude.{◌≡◌, ◌<◌, ◌≤◌, ◌==◌, ◌+◌, ◌-◌, ℕ, [], length, true, OnOk, slice_set};
 ghost use Rattle.mark_list.specs.Marks.{count_before, is_marked};
 
 use crate::numbers::{
     count_between, count_mark, find_sum, lengthen, lengthen_marks, mark_after, next_count,
-    sum_between,
+    none_between, sum_between,
 };
 use std::alloc::Global;
 use std::marker::Model;
 use umix_base::Memory;
 
-/// A list of marks, each set or not, that grows at its end. `count` takes constant time; `before`, `place`
-/// and `put` look at no more than 64 numbers on each of three levels, and at one in 262,144 of the places.
+/// A list of marks, each set or not, that grows at its end. `count` takes constant time; `before` and `place`
+/// look at no more than 16 numbers on each of five levels, and at one for 1,048,576 of the places; `put` writes
+/// one on each level.
 #[derive(Drop)]
 pub struct Marks {
     marks: Vec<bool>,
-    /// How many are set of each 64 marks.
+    /// How many are set of each 16 marks.
     blocks: Vec<usize>,
-    /// The sum of each 64 blocks.
+    /// The sum of each 16 blocks.
     pages: Vec<usize>,
-    /// The sum of each 64 pages.
+    /// The sum of each 16 pages.
     books: Vec<usize>,
+    /// The sum of each 16 books.
+    shelves: Vec<usize>,
+    /// The sum of each 16 shelves.
+    rooms: Vec<usize>,
     /// How many are set in all.
     count: usize,
 }
@@ -32,7 +37,8 @@ impl Model for Marks {
 
     ghost view = { λ marks. marks.marks.items };
 
-    ghost invariant = { λ m. AreSummed m.marks.items m.blocks.items m.pages.items m.books.items m.count };
+    ghost invariant = { λ m. AreSummed m.marks.items m.blocks.items m.pages.items m.books.items
+        m.shelves.items m.rooms.items m.count };
 }
 
 impl Marks {
@@ -45,24 +51,37 @@ impl Marks {
             blocks: Vec::new(alloc),
             pages: Vec::new(alloc),
             books: Vec::new(alloc),
+            shelves: Vec::new(alloc),
+            rooms: Vec::new(alloc),
             count: 0,
         }
     }
 
-    /// Makes the list at least so long. What is new isn't set. After `Memory` the list may be longer, and no
-    /// mark is another.
+    /// Makes the list at least so long, and at most 16 longer than that. What is new isn't set. After `Memory`
+    /// the list may be longer, and no mark is another. Constant time where it is so long.
     pub fn lengthen(&mut self, size: usize) -> Result<(), Memory>
         ensures same { (i : ℕ) → is_marked self.new i ≡ is_marked self.old i }
         ensures longer { length self.old ≤ length self.new }
+        ensures most { length self.new ≤ length self.old + (size + 16 - length self.old) }
         ensures ok { OnOk result (size ≤ length self.new) }
     {
-        let blocks = size / 64 + 1;
-        let pages = blocks / 64 + 1;
-        let books = pages / 64 + 1;
+        if size <= self.marks.len() {
+            return Ok(());
+        }
+        if size > usize::MAX - 16 {
+            return Err(Memory);
+        }
+        let blocks = size / 16 + 1;
+        let pages = blocks / 16 + 1;
+        let books = pages / 16 + 1;
+        let shelves = books / 16 + 1;
+        let rooms = shelves / 16 + 1;
+        lengthen(&mut self.rooms, rooms)?;
+        lengthen(&mut self.shelves, shelves)?;
         lengthen(&mut self.books, books)?;
         lengthen(&mut self.pages, pages)?;
         lengthen(&mut self.blocks, blocks)?;
-        lengthen_marks(&mut self.marks, size)?;
+        lengthen_marks(&mut self.marks, 16 * blocks)?;
         Ok(())
     }
 
@@ -85,13 +104,31 @@ impl Marks {
         requires { place ≤ length self.now }
         ensures { result ≡ count_before self.now place }
     {
-        let block = place / 64;
-        let page = block / 64;
-        let book = page / 64;
-        sum_between(&self.books, 0, book)
-            + sum_between(&self.pages, 64 * book, page)
-            + sum_between(&self.blocks, 64 * page, block)
-            + count_between(&self.marks, 64 * block, place)
+        let block = place / 16;
+        let page = block / 16;
+        let book = page / 16;
+        let shelf = book / 16;
+        let room = shelf / 16;
+        sum_between(&self.rooms, 0, room)
+            + sum_between(&self.shelves, 16 * room, shelf)
+            + sum_between(&self.books, 16 * shelf, book)
+            + sum_between(&self.pages, 16 * book, page)
+            + sum_between(&self.blocks, 16 * page, block)
+            + count_between(&self.marks, 16 * block, place)
+    }
+
+    /// Whether no mark is set from one place to before another. Of 256 marks and fewer it looks at each, up to
+    /// the first that is set; of more it takes `before` twice.
+    pub fn is_clear(&self, from: usize, to: usize) -> bool
+        requires order { from ≤ to }
+        requires there { to ≤ length self.now }
+        ensures { result ≡ (count_before self.now from == count_before self.now to) }
+    {
+        if to - from <= 256 {
+            none_between(&self.marks, from, to)
+        } else {
+            self.before(from) == self.before(to)
+        }
     }
 
     /// The place of the mark that comes after `k` that are set: the k-th, counted from 0.
@@ -101,10 +138,12 @@ impl Marks {
         ensures there { result < length self.now }
         ensures is { count_before self.now result ≡ k }
     {
-        let (book, left) = find_sum(&self.books, 0, k);
-        let (page, left) = find_sum(&self.pages, 64 * book, left);
-        let (block, left) = find_sum(&self.blocks, 64 * page, left);
-        mark_after(&self.marks, 64 * block, left)
+        let (room, left) = find_sum(&self.rooms, 0, k);
+        let (shelf, left) = find_sum(&self.shelves, 16 * room, left);
+        let (book, left) = find_sum(&self.books, 16 * shelf, left);
+        let (page, left) = find_sum(&self.pages, 16 * book, left);
+        let (block, left) = find_sum(&self.blocks, 16 * page, left);
+        mark_after(&self.marks, 16 * block, left)
     }
 
     /// Sets a mark, or takes it away.
@@ -115,12 +154,16 @@ impl Marks {
         if self.marks[place] == set {
             return;
         }
-        let block = place / 64;
-        let page = block / 64;
-        let book = page / 64;
+        let block = place / 16;
+        let page = block / 16;
+        let book = page / 16;
+        let shelf = book / 16;
+        let room = shelf / 16;
         count_mark(&mut self.blocks, block, set);
         count_mark(&mut self.pages, page, set);
         count_mark(&mut self.books, book, set);
+        count_mark(&mut self.shelves, shelf, set);
+        count_mark(&mut self.rooms, room, set);
         self.count = next_count(self.count, set);
         self.marks[place] = set;
     }

@@ -1,6 +1,6 @@
 //! Lists of numbers, and what they add up to.
 
-ghost use Rattle.std.specs.Prelude.{◌≡◌, ◌<◌, ◌≤◌, ◌+◌, ◌-◌, ◌^◌, ℕ, length, true, not, OnOk, slice_set, vec_len};
+ghost use Rattle.std.specs.Prelude.{◌≡◌, ◌<◌, ◌≤◌, ◌+◌, ◌-◌, ◌==◌, ◌^◌, ℕ, length, true, not, OnOk, slice_set, vec_len};
 ghost use Rattle.mark_list.specs.Marks.{at, count_before, is_marked, one_if, sum_before};
 
 use umix_base::Memory;
@@ -74,6 +74,20 @@ pub(crate) fn count_between(marks: &[bool], from: usize, to: usize) -> usize
         count += number_of(marks[place]);
     }
     count
+}
+
+/// Whether no mark is set from one place to before another.
+pub(crate) fn none_between(marks: &[bool], from: usize, to: usize) -> bool
+    requires order { from ≤ to }
+    requires there { to ≤ length marks.now }
+    ensures { result ≡ (count_before marks.now from == count_before marks.now to) }
+{
+    for place in from..to {
+        if marks[place] {
+            return false;
+        }
+    }
+    true
 }
 
 /// The place of the mark that comes after so many, counted from a place on.

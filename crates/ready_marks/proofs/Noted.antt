@@ -13,13 +13,14 @@ use Rattle.two_d.specs.declared.module.Origin.{Origin}
 use Rattle.two_d.specs.declared.module.Origin.TheVariants.{North, West, South, East}
 use Rattle.two_d.specs.declared.module.To.{To}
 use Rattle.two_d.specs.declared.module.To.TheVariants.{N, W, Exit}
-use Rattle.ready_marks.specs.Ways.{WaysForm, Leads, IsWithin, lead_to, Takes, AreWaysBelow, AreWaysOf}
+use Rattle.ready_marks.specs.Ways.{WaysForm, Leads, Takes, AreWaysOf}
+use Rattle.ready_marks.specs.inner.Noted.{IsWithin, lead_to, AreWaysBelow}
 
 takes-once : (m : ModuleForm) → IsSound m → (o : Origin) (b c : ℕ) → Takes m b o → Takes m c o → b ≡ c
-takes-once m s o b c (row, there, inl n) (row', there', inl n') = let e : N b ≡ N c = s.once o (N b) (N c) (row, there, n) (row', there', n') in cc
-takes-once m s o b c (row, there, inl n) (row', there', inr w') = let e : N b ≡ W c = s.once o (N b) (W c) (row, there, n) (row', there', w') in cc
-takes-once m s o b c (row, there, inr w) (row', there', inl n') = let e : W b ≡ N c = s.once o (W b) (N c) (row, there, w) (row', there', n') in cc
-takes-once m s o b c (row, there, inr w) (row', there', inr w') = let e : W b ≡ W c = s.once o (W b) (W c) (row, there, w) (row', there', w') in cc
+takes-once m s o b c (inl n) (inl n') = let e : N b ≡ N c = s.once o (N b) (N c) n n' in cc
+takes-once m s o b c (inl n) (inr w') = let e : N b ≡ W c = s.once o (N b) (W c) n w' in cc
+takes-once m s o b c (inr w) (inl n') = let e : W b ≡ N c = s.once o (W b) (N c) w n' in cc
+takes-once m s o b c (inr w) (inr w') = let e : W b ≡ W c = s.once o (W b) (W c) w w' in cc
 
 leads-old : (list : List (Option ℕ)) (from n f b : ℕ) → from < length list → Leads list f b → (f ≡ from → b ≡ n) → Leads (slice_set list from (Some n)) f b
 leads-old list from n f b lt old same = elim (cases_eq f from) [
@@ -172,17 +173,17 @@ ways-step m sound ways b row there lt below = record {
     }
 
     one : AreNoted m (With S b row.n) (lead_to ways row.n b)
-    one = noted-lead m sound S (λ d o h. h.1) b ways row.n start within (λ o is. (row, there, inl is))
+    one = noted-lead m sound S (λ d o h. h.1) b ways row.n start within (λ o is. inl (row, there, is))
 
     real : (d : ℕ) (o : Origin) → With S b row.n d o → Takes m d o
     real d o (inl old) = old.1
-    real d o (inr new) = rw new.0 (row, there, inl new.1)
+    real d o (inr new) = rw new.0 (inl (row, there, new.1))
 
     within' : IsWithin (lead_to ways row.n b) row.w
     within' = within-of m sound (lead_to ways row.n b) row.w (W b) (λ o is. (row, there, is)) one.south_sized one.east_sized
 
     both : AreNoted m (With (With S b row.n) b row.w) (lead_to (lead_to ways row.n b) row.w b)
-    both = noted-lead m sound (With S b row.n) real b (lead_to ways row.n b) row.w one within' (λ o is. (row, there, inr is))
+    both = noted-lead m sound (With S b row.n) real b (lead_to ways row.n b) row.w one within' (λ o is. inr (row, there, is))
 
     by : (d : ℕ) (o : Origin) → d < b + 1 → Takes m d o → With (With S b row.n) b row.w d o
     by d o near takes = elim (cases_eq d b) [
@@ -191,8 +192,8 @@ ways-step m sound ways b row there lt below = record {
     ]
       where
         here : (d : ℕ) (o : Origin) → d ≡ b → Takes m d o → With (With S b row.n) b row.w d o
-        here d o is (row', there', inl n) = let same : row' ≡ row = some-same (sym there' ∙ (rw is there)) in inl (inr (is, ap (λ (r : BoxForm). r.n) (sym same) ∙ n))
-        here d o is (row', there', inr w) = let same : row' ≡ row = some-same (sym there' ∙ (rw is there)) in inr (is, ap (λ (r : BoxForm). r.w) (sym same) ∙ w)
+        here d o is (inl (row', there', n)) = let same : row' ≡ row = some-same (sym there' ∙ (rw is there)) in inl (inr (is, ap (λ (r : BoxForm). r.n) (sym same) ∙ n))
+        here d o is (inr (row', there', w)) = let same : row' ≡ row = some-same (sym there' ∙ (rw is there)) in inr (is, ap (λ (r : BoxForm). r.w) (sym same) ∙ w)
 
 -- box b as the module has it
 pub box-read : (boxes : List BoxRow) (b : ℕ) (row : BoxRow) → b < length boxes → row ≡ slice_index_or boxes b row → slice_get (map box_of boxes) b ≡ Some (box_of row)
@@ -200,7 +201,19 @@ box-read boxes b row lt is = slice_get-map box_of boxes b ∙ ap (option_map box
 
 -- what a way leads to is a box of the module
 takes-there : (m : ModuleForm) (b : ℕ) (o : Origin) → Takes m b o → b < length m.boxes
-takes-there m b o (row, there, h) = slice_get_within m.boxes b row there
+takes-there m b o (inl (row, there, is)) = slice_get_within m.boxes b row there
+takes-there m b o (inr (row, there, is)) = slice_get_within m.boxes b row there
+
+-- where those of all boxes are noted, all are
+pub ways-all : (m : ModuleForm) (ways : WaysForm) → AreWaysBelow m (length m.boxes) ways → AreWaysOf m ways
+ways-all m ways below = record {
+  south_sized = below.south_sized;
+  east_sized = below.east_sized;
+  south = λ b from takes. below.south b from (takes-there m b (South from) takes) takes;
+  east = λ b from takes. below.east b from (takes-there m b (East from) takes) takes;
+  south_wired = below.south_wired;
+  east_wired = below.east_wired;
+}
 
 pub south-there : (m : ModuleForm) (ways : WaysForm) → AreWaysOf m ways → (from to : ℕ) → Leads ways.south from to → to < length m.boxes
 south-there m ways are from to leads = takes-there m to (South from) (are.south_wired from to leads)

@@ -12,7 +12,11 @@ pub record SlotsView : Type 0 where
 abbrev pub slots_view : List ℕ → List Bool → SlotsView
 slots_view starts marks = record { starts = starts; marks = marks }
 
--- what the mark that stands b behind the first of instance i is for: a box of so many, or the end
+-- mark b of instance i: that of box b, and the one behind its boxes that of its end
+abbrev pub mark_at : SlotsView → ℕ → ℕ → Bool
+mark_at slots i b = is_marked slots.marks (at slots.starts i + b)
+
+-- the event for which mark b of instance i stands, where it has so many boxes
 abbrev pub marked_event : ℕ → ℕ → ℕ → Event
 marked_event boxes i b = if b == boxes then End i else Fire i b
 
@@ -30,13 +34,13 @@ pub record AreStarts (P : Program) (T : Table) (starts : List ℕ) : Type 0 wher
   pub first : at starts 0 ≡ 0
   pub next : (i : ℕ) → i < length T → at starts (i + 1) ≡ at starts i + boxes_of P T i + 1
 
--- the mark is set just where the event is ready
-abbrev pub IsRight : Program → Table → List ℕ → List Bool → ℕ → ℕ → Type 0
-IsRight P T starts marks i b = is_marked marks (at starts i + b) ≡ is_ready P T (marked_event (boxes_of P T i) i b)
+-- mark b of instance i is set just where its event is ready
+abbrev pub IsRightAt : Program → Table → SlotsView → ℕ → ℕ → Type 0
+IsRightAt P T slots i b = mark_at slots i b ≡ is_ready P T (marked_event (boxes_of P T i) i b)
 
--- just the marks of the ready events are set
+-- just the marks of the ready events are set, and none behind those of the instances
 pub record AreReady (P : Program) (T : Table) (slots : SlotsView) : Type 0 where
   pub starts : AreStarts P T slots.starts
   pub reach : at slots.starts (length T) ≤ length slots.marks
-  pub right : (i b : ℕ) → i < length T → b ≤ boxes_of P T i → IsRight P T slots.starts slots.marks i b
+  pub right : (i b : ℕ) → i < length T → b ≤ boxes_of P T i → IsRightAt P T slots i b
   pub rest : (s : ℕ) → at slots.starts (length T) ≤ s → is_marked slots.marks s ≡ false

@@ -3,7 +3,7 @@ ghost use Rattle.mark_list.specs.Marks.{at, is_marked};
 ghost use Rattle.two_d.specs.Meaning.{all_below};
 ghost use Rattle.two_d.specs.Programs.{Program};
 ghost use Rattle.two_d.specs.Steps.{Table, ready};
-ghost use Rattle.ready_marks.specs.Slots.{AreReady, spot_event};
+ghost use Rattle.ready_marks.specs.Slots.{AreReady, mark_at, spot_event};
 
 use mark_list::Marks;
 use std::alloc::Global;
@@ -45,7 +45,7 @@ impl Slots {
     }
 
     /// The ready event at a place of their list, of so many instances: its instance, and its box or no
-    /// box for an end.
+    /// box for an end. Time by the logarithm of how far the instance is from the last, beside `place` of the marks.
     pub fn event(&self, instances: usize, k: usize) -> (usize, Option<usize>)
         requires { (P : Program) × (T : Table) × AreReady P T self.now × (length T ≡ instances) × (k < length (ready P T)) }
         ensures { (P : Program) (T : Table) → AreReady P T self.now → length T ≡ instances → k < length (ready P T) → slice_get (ready P T) k ≡ Some (spot_event result) }
@@ -69,8 +69,9 @@ impl Slots {
         ensures low { at self.now.starts result ≤ place }
         ensures high { place < at self.now.starts (result + 1) }
     {
-        let mut low = 0;
-        let mut high = instances;
+        let (first, last) = self.near(place, instances);
+        let mut low = first;
+        let mut high = last;
         while low + 1 < high {
             let middle = low + (high - low) / 2;
             if self.starts[middle] <= place {
@@ -80,6 +81,30 @@ impl Slots {
             }
         }
         low
+    }
+
+    /// Two instances, the place among the marks of the first or behind them and before those of the second. It
+    /// looks from the last instance back, by twice as many each time, since it is mostly a late one.
+    fn near(&self, place: usize, instances: usize) -> (usize, usize)
+        requires there { instances < length self.now.starts }
+        requires some { 0 < instances }
+        requires low { at self.now.starts 0 ≤ place }
+        requires high { place < at self.now.starts instances }
+        ensures order { result.0 < result.1 }
+        ensures there { result.1 ≤ instances }
+        ensures low { at self.now.starts result.0 ≤ place }
+        ensures high { place < at self.now.starts result.1 }
+    {
+        let mut low = instances - 1;
+        let mut high = instances;
+        while low > 0 {
+            if self.starts[low] <= place {
+                return (low, high);
+            }
+            high = low;
+            low = low.saturating_sub(instances - low);
+        }
+        (0, high)
     }
 
     /// Makes room for the marks of one more instance with so many boxes. What stands stays.
@@ -124,14 +149,15 @@ impl Slots {
         self.marks.put(self.starts[number] + b, ready);
     }
 
-    /// None of the first marks of an instance is set, those of its boxes.
+    /// None of the first marks of an instance is set, those of its boxes. Of 256 boxes and fewer it looks at each
+    /// mark, up to the first that is set.
     pub fn is_quiet(&self, number: usize, boxes: usize) -> bool
         requires there { number < length self.now.starts }
         requires within { at self.now.starts number + boxes ≤ length self.now.marks }
-        ensures { result ≡ all_below boxes (λ b. not (is_marked self.now.marks (at self.now.starts number + b))) }
+        ensures { result ≡ all_below boxes (λ b. not (mark_at self.now number b)) }
     {
         let _size = self.marks.len();
         let first = self.starts[number];
-        self.marks.before(first) == self.marks.before(first + boxes)
+        self.marks.is_clear(first, first + boxes)
     }
 }

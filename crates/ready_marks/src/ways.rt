@@ -3,7 +3,8 @@
 ghost use Rattle.std.specs.Prelude.{◌≡◌, ◌<◌, ◌≤◌, ◌⊎◌, ℕ, List, Option, Some, None, IfOk, length, map, slice_index_or};
 ghost use Rattle.two_d.specs.Programs.{module_of};
 ghost use Rattle.two_d.specs.Sound.{IsSound};
-ghost use Rattle.ready_marks.specs.Ways.{AreWaysOf, Leads, IsWithin, lead_to, ways_form};
+ghost use Rattle.ready_marks.specs.Ways.{AreWaysOf, ways_form};
+ghost use Rattle.ready_marks.specs.inner.Noted.{IsWithin, lead_to};
 
 use std::alloc::Global;
 use two_d::{Module, Origin};

@@ -1,11 +1,11 @@
 -- What an event changes of what is ready, and marks of which some have to be looked at again.
 use Rattle.std.specs.Prelude.{◌≡◌, ℕ, ◌+◌, ◌<◌, ◌≤◌, ◌⊎◌, Bool, false, Option, Some, List, length}
 use Rattle.mark_list.specs.Marks.{at, is_marked}
-use Rattle.ready_marks.specs.Slots.{SlotsView, IsRight, boxes_of}
+use Rattle.ready_marks.specs.Slots.{SlotsView, IsRightAt, boxes_of}
 use Rattle.ready_marks.specs.Ways.{WaysForm, Leads}
 use Rattle.two_d.specs.Programs.{Program}
 use Rattle.two_d.specs.Steps.{Table, Event, Fire, End, instance_at}
-use Rattle.fire_core.specs.Kept.{KeptView, AreAllWays, ways_at}
+use Rattle.fire_core.specs.Kept.{KeptView, AreAllWays, IsMost, ways_at}
 
 -- the instance that makes the event
 abbrev pub maker_of : Event → ℕ
@@ -31,10 +31,6 @@ HasRoom n boxes slots = (n + 1 < length slots.starts) × (at slots.starts n + bo
 -- no mark behind those of the first n instances is set
 abbrev pub IsUnsetPast : ℕ → SlotsView → Type 0
 IsUnsetPast n slots = (s : ℕ) → at slots.starts n ≤ s → is_marked slots.marks s ≡ false
-
--- mark b of instance i is set just where its event is ready
-abbrev pub IsRightAt : Program → Table → SlotsView → ℕ → ℕ → Type 0
-IsRightAt P T slots i b = IsRight P T slots.starts slots.marks i b
 
 -- all marks of the instance are right
 abbrev pub AreRightOf : Program → Table → SlotsView → ℕ → Type 0
@@ -76,6 +72,7 @@ pub record IsDue (P : Program) (T : Table) (kept : KeptView) (e : Event) (told :
   pub high : length T ≤ n + 1
   pub room : n < length T → HasRoom n (boxes_of P T n) kept.slots
   pub ways : AreAllWays P kept.ways
+  pub most : IsMost P kept.most
   pub maker_there : maker_of e < n
   pub told_there : (i b : ℕ) → told ≡ Some (i, b) → (i < n) × (b < boxes_of P T i)
   pub marks : (i d : ℕ) → i < n → d ≤ boxes_of P T i → IsRightAt P T kept.slots i d ⊎ IsDueAt P T kept.ways e told i d

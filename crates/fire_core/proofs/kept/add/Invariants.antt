@@ -1,6 +1,7 @@
 -- The boxes so far have been looked at.
 use Rattle.std.specs.Prelude.{ℕ, ◌<◌, length}
-use Rattle.fire_core.specs.inner.Changes.{AreSpread, IsRightAt, IsUnsetPast, StaysRight}
+use Rattle.ready_marks.specs.Slots.{IsRightAt}
+use Rattle.fire_core.specs.inner.Changes.{AreSpread, IsUnsetPast, StaysRight}
 use Rattle.fire_core.proofs.kept.add.Given as goal
 
 abbrev pub invariant-loop-bx : goal.invariant-loop-bx

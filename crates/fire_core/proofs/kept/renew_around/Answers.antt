@@ -2,12 +2,12 @@
 use Rattle.std.specs.Prelude.{◌≡◌, ◌<◌, ◌⊎◌, ℕ, Some, None, length, map, slice_index_or}
 use Rattle.std.proofs.Common.{sym, ap, subst, ◌∙◌, arith}
 use Rattle.std.proofs.lemmas.List.{get_or_read, length-map}
-use Rattle.ready_marks.specs.Slots.{boxes_of}
+use Rattle.ready_marks.specs.Slots.{boxes_of, IsRightAt}
 use Rattle.ready_marks.specs.Ways.{WaysForm, AreWaysOf, ways_form}
 use Rattle.ready_marks.proofs.Noted.{south-there, east-there}
 use Rattle.two_d.specs.Programs.{module_at}
 use Rattle.two_d.specs.Steps.{Instance, instance_at}
-use Rattle.fire_core.specs.inner.Changes.{AreBoxesRight, IsNear, IsRightAt, ways_in}
+use Rattle.fire_core.specs.inner.Changes.{AreBoxesRight, IsNear, ways_in}
 use Rattle.fire_core.proofs.RightLemmas.{keeps-then, around-right, all-right, ways-read}
 use Rattle.fire_core.proofs.StateLemmas.{kinds_fit}
 use Rattle.fire_core.proofs.kept.renew_around.Goals as goal

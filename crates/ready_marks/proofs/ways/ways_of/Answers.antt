@@ -3,8 +3,9 @@ use Rattle.std.specs.Prelude.{◌≡◌, ◌<◌, ◌+◌, Some, length, map, sl
 use Rattle.std.proofs.Common.{arith, ap, subst, sym, ◌∙◌}
 use Rattle.std.proofs.lemmas.List.{length-map}
 use Rattle.two_d.specs.Programs.{ModuleForm, module_of, box_of}
-use Rattle.ready_marks.specs.Ways.{WaysForm, AreWaysBelow, IsWithin, lead_to, ways_form}
-use Rattle.ready_marks.proofs.Noted.{IsStep, ways-step, ways-none, box-read}
+use Rattle.ready_marks.specs.Ways.{WaysForm, ways_form}
+use Rattle.ready_marks.specs.inner.Noted.{AreWaysBelow, IsWithin, lead_to}
+use Rattle.ready_marks.proofs.Noted.{IsStep, ways-step, ways-none, ways-all, box-read}
 use Rattle.ready_marks.proofs.ways.ways_of.Goals as goal
 
 pub lead-requires : goal.lead-requires
@@ -36,4 +37,5 @@ loop-bx-preserved c =
 pub returns : goal.returns
 returns c =
     let all : c.loop-bx.bx ≡ length (map box_of c.args.«module».now.boxes.items) = omega (arith, length-map c.args.«module».now.boxes.items box_of) in
-    subst (λ n. AreWaysBelow (module_of c.args.«module».now) n (ways_form c.loop-bx.ways)) all c.loop-bx.invariant
+    ways-all (module_of c.args.«module».now) (ways_form c.loop-bx.ways)
+    (subst (λ n. AreWaysBelow (module_of c.args.«module».now) n (ways_form c.loop-bx.ways)) all c.loop-bx.invariant)

@@ -43,8 +43,8 @@ renew-requires-clause-due c =
     let core : IsCoreOf P (core_view c.self.inside.instances c.self.inside.kept) = subst (IsCoreOf P) (sym c.self.view_is) c.requires.core in
     let ready : is_ready P T e ≡ true = ap (λ (h : CoreView). is_ready P h.table e) c.self.view_is ∙ c.requires.ready in
     let kept : IsKeptOf P T c.reserve.new.self = c.reserve.ensures.kept P T (sym c.len-before.ensures) core.kept in
-    due-step P T c.step.new.self.table c.reserve.new.self e c.told_by-told.result c.len-before.result c.room-boxes.result c.modules-modules.ensures.good core.state ready kept
-    c.in_ok-step.ensures.ok c.told_by-told.ensures c.len-before.ensures c.in_ok-reserve.ensures.ok c.room-boxes.ensures.enough
+    due-step P T c.step.new.self.table c.reserve.new.self e c.told_by-told.result c.len-before.result c.modules-modules.ensures.good core.state ready kept
+    c.in_ok-step.ensures.ok c.told_by-told.ensures c.len-before.ensures c.in_ok-reserve.ensures.ok
 
 pub invariant_of-self-2 : goal.invariant_of-self-2
 invariant_of-self-2 c =

@@ -14,7 +14,7 @@ pub event-requires : goal.event-requires
 event-requires c =
     let P = c.args.program.now in
     let T = c.args.instances.now.table in
-    let kept : IsKeptOf P T (kept_view c.self.inside.slots c.self.inside.ways.items) = subst (IsKeptOf P T) (sym c.self.view_is) c.requires.kept in
+    let kept : IsKeptOf P T (kept_view c.self.inside.slots c.self.inside.ways.items c.self.inside.most) = subst (IsKeptOf P T) (sym c.self.view_is) c.requires.kept in
     (P, T, kept.slots, sym c.len.ensures, c.requires.there)
 
 spot-box : (spot : ℕ × Option ℕ) (b : ℕ) → spot.1 ≡ Some b → spot_event spot ≡ Fire spot.0 b
@@ -26,7 +26,7 @@ overflow_cast-result c =
     let T = c.args.instances.now.table in
     let i = c.event.result.0 in
     let b = c.in_default-Some.bx in
-    let kept : IsKeptOf P T (kept_view c.self.inside.slots c.self.inside.ways.items) = subst (IsKeptOf P T) (sym c.self.view_is) c.requires.kept in
+    let kept : IsKeptOf P T (kept_view c.self.inside.slots c.self.inside.ways.items c.self.inside.most) = subst (IsKeptOf P T) (sym c.self.view_is) c.requires.kept in
     let there : slice_get (ready P T) c.args.k ≡ Some (Fire i b) =
     c.event.ensures P T kept.slots (sym c.len.ensures) c.requires.there ∙ ap Some (spot-box c.event.result b c.in_default-Some.is-1) in
     let can : is_ready P T (Fire i b) ≡ true = ready-at P T c.args.k (Fire i b) there in

@@ -16,7 +16,7 @@ renew_told-requires-clause-others c =
     let P = c.args.program.now in
     let U = c.args.instances.now.table in
     let e = event_of c.args.event in
-    let kept = kept_view c.self.inside.slots c.self.inside.ways.items in
+    let kept = kept_view c.self.inside.slots c.self.inside.ways.items c.self.inside.most in
     let due : IsDue P U kept e c.args.told c.args.before = subst (λ (k : KeptView). IsDue P U k e c.args.told c.args.before) (sym c.self.view_is) c.requires.due in
     rw c.deref.ensures.value (due-told P U kept e c.args.told c.args.before due c.add_new.new.slots c.add_new.ensures.stays)
 
@@ -25,7 +25,7 @@ renew_maker-requires-clause-boxes c =
     let P = c.args.program.now in
     let U = c.args.instances.now.table in
     let e = event_of c.args.event in
-    let kept = kept_view c.self.inside.slots c.self.inside.ways.items in
+    let kept = kept_view c.self.inside.slots c.self.inside.ways.items c.self.inside.most in
     let due : IsDue P U kept e c.args.told c.args.before = subst (λ (k : KeptView). IsDue P U k e c.args.told c.args.before) (sym c.self.view_is) c.requires.due in
     due-end P U kept e c.args.told c.args.before due c.add_new.new.slots c.add_new.ensures.stays c.renew_told.new.slots c.renew_told.ensures.keeps c.renew_told.ensures.all
 
@@ -34,10 +34,11 @@ returns c =
     let P = c.args.program.now in
     let U = c.args.instances.now.table in
     let e = event_of c.args.event in
-    let kept = kept_view c.self.inside.slots c.self.inside.ways.items in
+    let kept = kept_view c.self.inside.slots c.self.inside.ways.items c.self.inside.most in
     let due : IsDue P U kept e c.args.told c.args.before = subst (λ (k : KeptView). IsDue P U k e c.args.told c.args.before) (sym c.self.view_is) c.requires.due in
     record {
       slots = renewed P U kept e c.args.told c.args.before due c.add_new.new.slots c.add_new.ensures.stays c.renew_told.new.slots c.renew_told.ensures.keeps c.renew_told.ensures.all
           c.renew_maker.new.slots c.renew_maker.ensures.keeps c.renew_maker.ensures.end c.add_new.ensures.new c.add_new.ensures.rest;
       ways = due.ways;
+      most = due.most;
     }

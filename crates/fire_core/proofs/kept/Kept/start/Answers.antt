@@ -28,4 +28,5 @@ returns c =
     record {
       slots = ready-from P T c.add.new.slots c.add.ensures.spread right (c.add.ensures.rest none);
       ways = ways-found P c.deref.result.now c.in_ok-ways.ways.items (ap modules_of c.deref.ensures.value ∙ c.modules-modules.ensures.modules) c.in_ok-ways.ensures.sized c.in_ok-ways.ensures.each;
+      most = c.most_boxes-most.ensures;
     }
