@@ -1,5 +1,5 @@
 -- Whether a program fits has one answer.
-use Rattle.std.specs.Prelude.{◌≡◌, ℕ, ◌+◌, ◌<◌, List, [], ◌∷◌, length, Some, Bool, not, IsTrue, is_some, slice_get, slice_index_or}
+use Rattle.std.specs.Prelude.{◌≡◌, ℕ, ◌+◌, List, [], ◌∷◌, Some, Bool, not, IsTrue, is_some, slice_get}
 use Rattle.std.proofs.Common.{subst}
 use Rattle.std.proofs.lemmas.Option.{slice_get_within, get_or_from_slice_get}
 use Rattle.two_d.specs.Good.{IsGood}
@@ -14,7 +14,7 @@ use Rattle.type_sheet.specs.declared.fault.SheetFault.{SheetFault}
 use Rattle.type_sheet.specs.declared.fault.SheetFault.TheVariants.{NoPlace, NoLine, Mismatch}
 use Rattle.type_sheet.specs.declared.line.SheetRow.{SheetRow}
 use Rattle.type_sheet.specs.Said.{module_line}
-use Rattle.type_sheet.specs.Fits.{want, has_place, has_lines, box_fits, exit_fits, places_there, lines_there, boxes_fit, exits_fit, module_fits, fits_of}
+use Rattle.type_sheet.specs.Fits.{want, has_place, has_lines, box_fits, exit_fits, lines_there, module_fits, fits_of}
 
 pub from_one : {F A : Type 0} (k : ℕ → A → Reading F (Unit {0})) → ((n : ℕ) (x : A) → HasOneAnswer (k n x)) → (n : ℕ) (xs : List A) → HasOneAnswer (each_from k n xs)
 from_one k one n [] = gave_one tt

@@ -1,13 +1,12 @@
 -- What a module of a program that fits means.
-use Rattle.std.specs.Prelude.{◌≡◌, ℕ, zero, suc, ◌<◌, List, length, Option, Some, None, Bool, true, false, slice_get, if◌then◌else◌}
+use Rattle.std.specs.Prelude.{◌≡◌, ℕ, zero, suc, ◌<◌, List, length, Option, Some, None, Bool, true, false, if◌then◌else◌}
 use Rattle.std.specs.Option.{option_map, option_and_then}
-use Rattle.std.proofs.Common.{refl, sym, ◌∙◌, ap}
-use Rattle.std.proofs.lemmas.Option.{same_Some}
+use Rattle.std.proofs.Common.{refl}
 use Rattle.codex_values.specs.Value.{Value}
 use Rattle.two_d.specs.declared.module.Origin.{Origin}
 use Rattle.two_d.specs.declared.module.To.TheVariants.{N, W}
-use Rattle.two_d.specs.Meaning.{Inputs, Outcome, Cell, Effect, Done, Starts, Meaning, Answers, effect_of, returned, cell_of, act, inputs_of, cells_from, look_in, none_fired, pulled, look_of, all_known, summary_of, meaning_of, mean}
-use Rattle.two_d.specs.Programs.{Program, BoxForm, ModuleForm, find, module_at, box_at, box_count}
+use Rattle.two_d.specs.Meaning.{Inputs, Outcome, Cell, Effect, Done, Starts, Meaning, Answers, effect_of, returned, cell_of, act, inputs_of, cells_from, none_fired, pulled, look_of, all_known, summary_of, meaning_of, mean}
+use Rattle.two_d.specs.Programs.{Program, BoxForm, find, module_at, box_at, box_count}
 use Rattle.two_d.specs.Trees.{call}
 use Rattle.two_d.proofs.Options.{option_map_some}
 use Rattle.type_sheet.specs.declared.line.SheetRow.{SheetRow}

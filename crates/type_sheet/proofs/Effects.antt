@@ -1,8 +1,8 @@
 -- What a box of a module that fits does with values that have the types of its wires.
-use Rattle.std.specs.Prelude.{◌≡◌, ℕ, ◌<◌, List, [], ◌∷◌, Option, Some, None, Bool, true, false, not, ◌&&◌, ◌||◌, is_some, slice_get, if◌then◌else◌}
+use Rattle.std.specs.Prelude.{◌≡◌, ℕ, List, [], ◌∷◌, Option, Some, None, Bool, true, false, ◌&&◌, is_some, slice_get}
 use Rattle.std.specs.List.{list_all}
 use Rattle.std.specs.Option.{option_and_then}
-use Rattle.std.proofs.Common.{refl, sym, ◌∙◌, ap}
+use Rattle.std.proofs.Common.{refl, sym, ◌∙◌}
 use Rattle.std.proofs.lemmas.Option.{same_Some}
 use Rattle.codex_values.specs.Value.{Value, unit, pair, inl as inl_value, inr as inr_value}
 use Rattle.two_d.specs.declared.module.Origin.{Origin}
@@ -10,7 +10,7 @@ use Rattle.two_d.specs.declared.module.Origin.TheVariants.{North, West, South, E
 use Rattle.two_d.specs.declared.command.Side.{Side}
 use Rattle.two_d.specs.declared.command.Side.TheVariants.{S, E}
 use Rattle.two_d.specs.declared.trail.Site.TheVariants.{NoSum, NoPair}
-use Rattle.two_d.specs.Meaning.{Inputs, Outcome, Gives, Stuck, Cell, quiet, sent_to, sent, chosen, parts, Effect, Done, Starts, effect_of, returned, with_input, inputs_of, val, Cells, look_in, south_of, east_of}
+use Rattle.two_d.specs.Meaning.{Inputs, Outcome, Gives, Stuck, Cell, quiet, sent_to, sent, chosen, parts, Done, Starts, effect_of, returned, with_input, inputs_of, val, Cells, look_in, south_of, east_of}
 use Rattle.two_d.specs.Programs.{BoxForm, ModuleForm, Program, find}
 use Rattle.two_d.specs.Trails.{Trail, trail_of, via}
 use Rattle.two_d.specs.Trees.{Tree, Form, send, case, split, call}
@@ -18,9 +18,9 @@ use Rattle.type_sheet.specs.declared.line.Form.{Form as TypeForm}
 use Rattle.type_sheet.specs.declared.line.Form.TheVariants.{Unit as UnitForm, Pair, Sum}
 use Rattle.type_sheet.specs.declared.line.SheetRow.{SheetRow}
 use Rattle.type_sheet.specs.Said.{form_in, is_side}
-use Rattle.type_sheet.specs.Types.{InputTypes, is_unit, is_pairs, has_first, has_second, has_type, expression_has, carries, summands, components}
+use Rattle.type_sheet.specs.Types.{InputTypes, is_unit, is_pairs, has_first, has_second, has_type, summands, components}
 use Rattle.type_sheet.specs.Said.{north_type, west_type, result_type, wire_line}
-use Rattle.type_sheet.specs.Wires.{is_wired, origin_of, type_to, input_types, expression_type, summands_of, components_of, part, case_type, side_type, box_type, types_from, wire_type}
+use Rattle.type_sheet.specs.Wires.{is_wired, origin_of, type_to, input_types, expression_type, part, case_type, side_type, types_from, wire_type}
 use Rattle.type_sheet.specs.Fits.{are_same_type, expression_fits, wire_fits, out_fits, sum_fits, command_fits}
 use Rattle.type_sheet.specs.Safety.{value_fits, IsByResults}
 use Rattle.type_sheet.proofs.TestLemmas.{both, unless, same_side, is_side-refl, same_types}

@@ -1,11 +1,11 @@
 -- What an instance of a module that fits comes to.
-use Rattle.std.specs.Prelude.{◌≡◌, ℕ, zero, suc, ◌<◌, List, [], ◌∷◌, Option, Some, None, true, slice_get}
-use Rattle.std.proofs.Common.{refl, sym, ◌∙◌, ap}
+use Rattle.std.specs.Prelude.{◌≡◌, ℕ, suc, List, [], ◌∷◌, Option, Some, None, true, slice_get}
+use Rattle.std.proofs.Common.{refl}
 use Rattle.codex_values.specs.Value.{Value}
 use Rattle.two_d.specs.declared.module.Origin.{Origin}
 use Rattle.two_d.specs.declared.module.To.TheVariants.{Exit}
-use Rattle.two_d.specs.Meaning.{Outcome, Cell, Cells, stuck_of, first_below, carried_by, result_of, unless_stuck, outcome_of}
-use Rattle.two_d.specs.Programs.{Program, ModuleForm, module_at, box_count}
+use Rattle.two_d.specs.Meaning.{Cell, Cells, stuck_of, first_below, carried_by, result_of, unless_stuck, outcome_of}
+use Rattle.two_d.specs.Programs.{Program, module_at, box_count}
 use Rattle.two_d.specs.Trails.{Trail}
 use Rattle.two_d.proofs.ProgramTrails.{first_below-some}
 use Rattle.type_sheet.specs.declared.line.SheetRow.{SheetRow}

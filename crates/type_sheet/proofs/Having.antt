@@ -1,8 +1,8 @@
 -- An expression that has a type has a value of this type.
-use Rattle.std.specs.Prelude.{◌≡◌, ℕ, List, [], ◌∷◌, Option, Some, None, Bool, true, false}
+use Rattle.std.specs.Prelude.{◌≡◌, ℕ, List, Option, Some, None, Bool, true}
 use Rattle.std.specs.Option.{unwrap_or}
-use Rattle.std.proofs.Common.{refl, sym, ◌∙◌, ap}
-use Rattle.codex_values.specs.Value.{Value, unit, pair, inl, inr}
+use Rattle.std.proofs.Common.{refl}
+use Rattle.codex_values.specs.Value.{Value, unit}
 use Rattle.two_d.specs.Meaning.{Inputs, val}
 use Rattle.two_d.specs.Trees as tree
 use Rattle.two_d.specs.Trees.{Tree}
@@ -10,7 +10,7 @@ use Rattle.type_sheet.specs.declared.line.Form.{Form}
 use Rattle.type_sheet.specs.declared.line.Form.TheVariants.{Unit as UnitForm, Pair, Sum}
 use Rattle.type_sheet.specs.declared.line.SheetRow.{SheetRow}
 use Rattle.type_sheet.specs.Said.{form_in}
-use Rattle.type_sheet.specs.Types.{InputTypes, is_unit, is_pairs, has_first, has_second, has_type, carries, expression_has}
+use Rattle.type_sheet.specs.Types.{InputTypes, is_pairs, has_first, has_second, has_type, expression_has}
 use Rattle.type_sheet.proofs.TestLemmas.{both, same_type}
 
 -- what comes to a port has the port's type

@@ -1,5 +1,5 @@
 -- Places of rows by what they declare.
-use Rattle.std.specs.Prelude.{◌≡◌, ℕ, zero, suc, ◌+◌, ◌<◌, Bool, true, false, ◌&&◌, List, [], ◌∷◌, ◌++◌, length, take, Option, Some, None, nat_eq, slice_get, if◌then◌else◌, is_some}
+use Rattle.std.specs.Prelude.{◌≡◌, ℕ, zero, suc, ◌+◌, Bool, true, false, List, [], ◌∷◌, ◌++◌, length, take, Option, Some, None, slice_get, if◌then◌else◌, is_some}
 use Rattle.std.specs.HashMap.{get, get_by}
 use mathlib.Core.Path.{fun_ext}
 use Rattle.type_sheet.specs.contracts.index.SubjectPartialEq.TheImpl.{eq-value}

@@ -20,3 +20,6 @@ pub mod Lined
 pub mod RowsRead
 pub mod SheetRows
 pub mod Cuts
+pub mod Placed
+pub mod SomeSheet
+pub mod Wiring

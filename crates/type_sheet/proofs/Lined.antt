@@ -2,7 +2,7 @@
 use Rattle.std.specs.Prelude.{◌≡◌, ℕ, ◌-◌, ◌<◌, ◌≤◌, ◌==◌, List, [], ◌∷◌, length, take, drop, slice_index_or, Option, Some, None, MatchOption, IfOk, Result, Ok, Err, codes}
 use Rattle.std.specs.Borrow.{Bor}
 use Rattle.std.specs.List.{slice_split}
-use Rattle.std.proofs.Common.{refl, sym, ◌∙◌, ap, subst, arith, eq-eqb, Bool, true, false}
+use Rattle.std.proofs.Common.{refl, sym, ◌∙◌, ap, subst, arith, eq-eqb, true, false}
 use Rattle.std.proofs.lemmas.List.{take_all}
 use Rattle.two_d.specs.declared.command.Side.{Side}
 use Rattle.type_sheet.specs.declared.line.Form.{Form as KindForm}
@@ -47,14 +47,14 @@ just_three (w ∷ x ∷ y ∷ []) le lt = refl
 just_three (w ∷ x ∷ y ∷ z ∷ ws) le lt = absurd (omega arith)
 
 -- the words behind the first
-behind_first : (a b : List ℕ) (xs ys : List (List ℕ)) → a ∷ xs ≡ b ∷ ys → xs ≡ ys
+pub behind_first : (a b : List ℕ) (xs ys : List (List ℕ)) → a ∷ xs ≡ b ∷ ys → xs ≡ ys
 behind_first a b xs ys e = cc
 
-firsts : (a b : List ℕ) (xs ys : List (List ℕ)) → a ∷ xs ≡ b ∷ ys → a ≡ b
+pub firsts : (a b : List ℕ) (xs ys : List (List ℕ)) → a ∷ xs ≡ b ∷ ys → a ≡ b
 firsts a b xs ys e = cc
 
 -- texts whose first bytes differ
-differ : (a b : ℕ) (x y : List ℕ) → (a == b) ≡ false → a ∷ x ≡ b ∷ y → ⊥
+pub differ : (a b : ℕ) (x y : List ℕ) → (a == b) ≡ false → a ∷ x ≡ b ∷ y → ⊥
 differ a b x y other e =
     let same : a ≡ b = cc in
     let t : (a == b) ≡ true = eq-eqb a b same in

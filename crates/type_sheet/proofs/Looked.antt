@@ -1,19 +1,18 @@
 -- What the first row says that says something is what the row says that declares the subject.
-use Rattle.std.specs.Prelude.{◌≡◌, ℕ, zero, suc, ◌+◌, ◌<◌, Bool, true, false, ◌&&◌, ◌==◌, List, [], ◌∷◌, ◌++◌, length, take, Option, Some, None, nat_eq, slice_get, if◌then◌else◌, is_some}
+use Rattle.std.specs.Prelude.{◌≡◌, ℕ, zero, suc, ◌+◌, ◌<◌, Bool, true, false, ◌&&◌, ◌==◌, List, [], ◌∷◌, take, Option, Some, None, slice_get, if◌then◌else◌, is_some}
 use Rattle.std.specs.Option.{option_map, option_and_then, option_or}
 use Rattle.std.specs.Str.{bytes_eq}
 use Rattle.std.proofs.lemmas.Slice.Eq.{bytes_eq-Decides}
-use Rattle.std.proofs.Common.{refl, sym, ◌∙◌, ap, arith, eq-eqb}
+use Rattle.std.proofs.Common.{refl, sym, ◌∙◌, arith, eq-eqb}
 use Rattle.two_d.specs.declared.command.Side.{Side}
 use Rattle.two_d.specs.declared.command.Side.TheVariants.{S, E}
 use Rattle.two_d.specs.Programs.{is_name}
 use Rattle.two_d.proofs.Listed.{is_name-refl, is_name-true}
-use Rattle.type_sheet.specs.declared.line.Form.{Form}
 use Rattle.type_sheet.specs.declared.line.Line.{Line}
 use Rattle.type_sheet.specs.declared.line.Line.TheVariants.{Kind, Module, Wire, Of}
 use Rattle.type_sheet.specs.declared.line.SheetRow.{SheetRow}
 use Rattle.type_sheet.specs.Sheets.{Subject, a_type, a_module, port, expression, subject_of, IsSheet}
-use Rattle.type_sheet.specs.Said.{first_said, form_said, module_said, wire_said, of_said, form_in, is_side, ModuleTypes}
+use Rattle.type_sheet.specs.Said.{first_said, form_said, module_said, wire_said, of_said, form_in, is_side}
 use Rattle.type_sheet.specs.inner.Subjects.{key_of, same_key, is_declared, place_of, line_of, form_in_line, module_in_line, wire_in_line, of_in_line}
 use Rattle.two_d.proofs.Options.{option_map_some}
 use Rattle.type_sheet.specs.Said.{module_line, wire_line, of_line}

@@ -1,23 +1,20 @@
 -- A text is of at most one line, and a sheet has at most one answer.
-use Rattle.std.specs.Prelude.{◌≡◌, ◌⊎◌, ℕ, zero, suc, ◌+◌, ◌<◌, ◌≤◌, ◌^◌, ◌%◌, List, [], ◌∷◌, ◌++◌, length, take, Option, Some, None, IfSome, codes, decimal, All, Any, Ok, Err}
+use Rattle.std.specs.Prelude.{◌≡◌, ◌⊎◌, ℕ, suc, ◌+◌, ◌<◌, ◌^◌, ◌%◌, List, [], ◌∷◌, ◌++◌, length, Option, Some, None, IfSome, codes, decimal, All}
 use Rattle.std.specs.Str.Lines.{lines}
 use Rattle.std.proofs.Common.{refl, sym, ◌∙◌, ap, subst, arith, inl, inr, append_assoc}
 use Rattle.std.proofs.lemmas.Fmt.{decimal_by_steps, decimal_injective}
 use Rattle.std.proofs.lemmas.List.Elements.{All-nil, All-cons, All-append, All-get_or, All-from_get_or}
 use Rattle.two_d.specs.Names.{IsName, IsNameByte}
-use Rattle.two_d.specs.Reading.{Reading, refuse, each_from}
 use Rattle.two_d.specs.declared.command.Side.{Side}
 use Rattle.two_d.specs.declared.command.Side.TheVariants.{S, E}
-use Rattle.two_d.proofs.OneReading.{HasOneAnswer, IsOne, gave_one, the_or_one, refused_one, then_one}
-use Rattle.type_sheet.specs.declared.fault.SheetFault.{SheetFault}
+use Rattle.two_d.proofs.OneReading.{HasOneAnswer, gave_one, the_or_one, refused_one, then_one}
 use Rattle.type_sheet.specs.declared.fault.SheetFault.TheVariants.{TooLong, BadSheet, SameLine, NoType}
 use Rattle.type_sheet.specs.declared.line.Form.{Form}
 use Rattle.type_sheet.specs.declared.line.Form.TheVariants.{Unit as UnitForm, Pair, Sum}
 use Rattle.type_sheet.specs.declared.line.Line.{Line}
 use Rattle.type_sheet.specs.declared.line.Line.TheVariants.{Kind, Module, Wire, Of}
-use Rattle.type_sheet.specs.declared.line.SheetRow.{SheetRow}
 use Rattle.type_sheet.specs.Lines.{entry_text, form_text, line_text, IsForm, IsLine, IsTextOf}
-use Rattle.type_sheet.specs.Sheets.{a_type, subject_of, types_used, Declares, most_sheet_bytes, row_of, rows_from, declares_anew, uses_declared, sheet_of}
+use Rattle.type_sheet.specs.Sheets.{most_sheet_bytes, row_of, rows_from, declares_anew, uses_declared, sheet_of}
 use Rattle.type_sheet.proofs.Answered.{from_one}
 
 -- letters, digits and `_`
@@ -52,17 +49,17 @@ space_ends (inl h) = omega (arith, h.0)
 space_ends (inr (inl h)) = omega (arith, h.0)
 space_ends (inr (inr e)) = omega (arith, e)
 
-mark_ends : (b : ℕ) → b < 48 → IsNameByte b → ⊥
+pub mark_ends : (b : ℕ) → b < 48 → IsNameByte b → ⊥
 mark_ends b lt (inl h) = omega (arith, h.0, lt)
 mark_ends b lt (inr (inl h)) = omega (arith, h.0, lt)
 mark_ends b lt (inr (inr e)) = omega (arith, e, lt)
 
-bar_ends : IsNameByte 124 → ⊥
+pub bar_ends : IsNameByte 124 → ⊥
 bar_ends (inl h) = omega (arith, h.1)
 bar_ends (inr (inl h)) = omega (arith, h.1)
 bar_ends (inr (inr e)) = omega (arith, e)
 
-bracket_ends : IsNameByte 93 → ⊥
+pub bracket_ends : IsNameByte 93 → ⊥
 bracket_ends (inl h) = omega (arith, h.0)
 bracket_ends (inr (inl h)) = omega (arith, h.1)
 bracket_ends (inr (inr e)) = omega (arith, e)

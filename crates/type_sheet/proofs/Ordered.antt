@@ -1,5 +1,5 @@
 -- The boxes of a module in an order, as their types are told.
-use Rattle.std.specs.Prelude.{◌≡◌, ℕ, zero, suc, ◌+◌, ◌<◌, ◌≤◌, List, [], ◌∷◌, ◌++◌, length, take, slice_get, Option, Some, None, Bool, true, false, not, ◌&&◌, ◌||◌}
+use Rattle.std.specs.Prelude.{◌≡◌, ℕ, zero, suc, ◌+◌, ◌<◌, ◌≤◌, List, [], ◌∷◌, length, take, slice_get, Option, Some, None}
 use Rattle.std.specs.List.{list_all}
 use Rattle.std.proofs.Common.{refl, sym, ◌∙◌, ap, arith, subst, add-one, ◌⊎◌, inl, inr}
 use Rattle.std.proofs.lemmas.Bool.{cases_eq, cases_lt, eq-eqb, ne_eqb}
@@ -17,8 +17,8 @@ use Rattle.two_d.proofs.Sourced.{IsAmong, IsFrom, among_order}
 use Rattle.type_sheet.specs.declared.line.SheetRow.{SheetRow}
 use Rattle.type_sheet.specs.Types.{InputTypes}
 use Rattle.type_sheet.specs.Said.{north_type, west_type}
-use Rattle.type_sheet.specs.Wires.{WireTypes, origin_of, type_to, input_types, is_wired, side_type, box_type, types_from, types_within, wire_type}
-use Rattle.type_sheet.specs.Fits.{expression_fits, wire_fits, out_fits, command_fits, box_fits}
+use Rattle.type_sheet.specs.Wires.{WireTypes, origin_of, type_to, input_types, side_type, box_type, types_from, types_within, wire_type}
+use Rattle.type_sheet.specs.Fits.{wire_fits, out_fits, command_fits, box_fits}
 use Rattle.type_sheet.specs.inner.Carried.{types_with_row}
 use Rattle.type_sheet.proofs.Told.{told-whole}
 

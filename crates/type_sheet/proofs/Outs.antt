@@ -1,5 +1,5 @@
 -- Whether all of a list passes a test.
-use Rattle.std.specs.Prelude.{◌≡◌, ℕ, zero, suc, ◌<◌, List, [], ◌∷◌, Option, Some, None, Bool, true, false, ◌&&◌, ◌||◌, length, slice_get, map}
+use Rattle.std.specs.Prelude.{◌≡◌, ℕ, zero, suc, ◌<◌, List, [], ◌∷◌, Some, Bool, true, false, ◌&&◌, ◌||◌, length, slice_get, map}
 use Rattle.std.specs.List.{list_all, list_any}
 use Rattle.two_d.specs.declared.module.BoxRow.{BoxRow}
 use Rattle.two_d.specs.declared.module.Origin.{Origin}

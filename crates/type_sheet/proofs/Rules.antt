@@ -1,11 +1,10 @@
 -- What holds where nothing is wrong with a program by a sheet.
-use Rattle.std.specs.Prelude.{◌≡◌, ℕ, zero, suc, ◌+◌, ◌<◌, List, [], ◌∷◌, length, Option, Some, None, Result, Ok, Bool, true, false, not, IsTrue, slice_get, slice_index_or}
-use Rattle.std.proofs.Common.{refl, sym, ◌∙◌, subst, arith}
+use Rattle.std.specs.Prelude.{◌≡◌, ℕ, zero, suc, ◌+◌, ◌<◌, List, [], ◌∷◌, length, Some, Result, Ok, Bool, true, false, IsTrue, slice_get, slice_index_or}
+use Rattle.std.proofs.Common.{refl, ◌∙◌, subst, arith}
 use Rattle.std.proofs.lemmas.Option.{slice_get_within, slice_get-get_or, get_or_from_slice_get}
-use Rattle.two_d.specs.declared.module.Origin.{Origin}
 use Rattle.two_d.specs.Good.{IsGood, UsesWell}
-use Rattle.two_d.specs.Programs.{Program, BoxForm, ModuleForm, find, is_name, module_at, no_module, box_at}
-use Rattle.two_d.specs.Reading.{Reading, The, it, Then, Refused, refused, passed, each_from}
+use Rattle.two_d.specs.Programs.{Program, BoxForm, find, is_name, module_at, no_module, box_at}
+use Rattle.two_d.specs.Reading.{Reading, The, it, each_from}
 use Rattle.two_d.specs.Sound.{IsOrder, IsKeptOrder}
 use Rattle.two_d.specs.Trees.{call}
 use Rattle.two_d.proofs.InOrder.{then_ok}
@@ -15,9 +14,8 @@ use Rattle.type_sheet.specs.declared.fault.At.TheVariants.{Bx, Exit}
 use Rattle.type_sheet.specs.declared.fault.SheetFault.{SheetFault}
 use Rattle.type_sheet.specs.declared.fault.SheetFault.TheVariants.{NoPlace, Mismatch}
 use Rattle.type_sheet.specs.declared.line.SheetRow.{SheetRow}
-use Rattle.type_sheet.specs.Said.{result_type}
-use Rattle.type_sheet.specs.Wires.{wire_type, types_from}
-use Rattle.type_sheet.specs.Fits.{are_same_type, box_fits, command_fits, exit_fits, want, has_place, lines_there, module_fits, fits_of}
+use Rattle.type_sheet.specs.Wires.{wire_type}
+use Rattle.type_sheet.specs.Fits.{box_fits, command_fits, exit_fits, want, has_place, lines_there, module_fits, fits_of}
 use Rattle.type_sheet.proofs.Told.{told-whole}
 use Rattle.type_sheet.proofs.Effects.{FitsWell}
 use Rattle.type_sheet.proofs.Depths.{AllFit}

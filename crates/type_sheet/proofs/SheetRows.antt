@@ -1,15 +1,14 @@
 -- What holds of the rows of a sheet.
-use Rattle.std.specs.Prelude.{◌≡◌, ℕ, zero, suc, ◌<◌, List, [], ◌∷◌, length, take, slice_get, slice_index_or, All, Any, Some, Ok, Result}
+use Rattle.std.specs.Prelude.{◌≡◌, ℕ, zero, suc, ◌<◌, List, [], ◌∷◌, length, take, slice_get, Any, Some, Ok, Result}
 use Rattle.std.specs.Str.Lines.{lines}
-use Rattle.std.proofs.Common.{refl, sym, subst, arith}
+use Rattle.std.proofs.Common.{refl, subst, arith}
 use Rattle.std.proofs.lemmas.Option.{slice_get_within, get_or_from_slice_get}
-use Rattle.two_d.specs.Reading.{Reading, Gave, gave, Refused, refuse, each_from}
+use Rattle.two_d.specs.Reading.{Gave, gave, Refused, each_from}
 use Rattle.two_d.proofs.GoodTable.{not_so}
 use Rattle.two_d.proofs.InOrder.{then_ok}
-use Rattle.type_sheet.specs.declared.fault.SheetFault.{SheetFault}
 use Rattle.type_sheet.specs.declared.fault.SheetFault.TheVariants.{TooLong, SameLine, NoType}
 use Rattle.type_sheet.specs.declared.line.SheetRow.{SheetRow}
-use Rattle.type_sheet.specs.Sheets.{a_type, subject_of, types_used, Declares, most_sheet_bytes, rows_from, declares_anew, uses_declared, sheet_of, IsSheet}
+use Rattle.type_sheet.specs.Sheets.{a_type, subject_of, types_used, Declares, most_sheet_bytes, rows_from, declares_anew, uses_declared, IsSheet}
 use Rattle.type_sheet.proofs.Rules.{from_first}
 
 gave_is : {F A : Type 0} (x y : A) → Gave {F = F} x (Ok y) → x ≡ y

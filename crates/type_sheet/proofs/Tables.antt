@@ -1,13 +1,12 @@
 -- The tables of a program that fits.
-use Rattle.std.specs.Prelude.{◌≡◌, ◌≢◌, ℕ, zero, suc, ◌+◌, ◌<◌, ◌≤◌, List, [], ◌∷◌, ◌++◌, length, Option, Some, None, true, false, slice_set}
-use Rattle.std.proofs.Common.{refl, sym, ◌∙◌, ap, arith, ◌⊎◌, inl, inr}
+use Rattle.std.specs.Prelude.{◌≡◌, ◌≢◌, ℕ, zero, suc, ◌<◌, ◌≤◌, List, [], ◌∷◌, ◌++◌, length, Option, Some, None, true, slice_set}
+use Rattle.std.proofs.Common.{refl, sym, ◌∙◌, arith, ◌⊎◌, inl, inr}
 use Rattle.std.proofs.lemmas.Bool.{cases_lt, cases_eq}
 use Rattle.std.proofs.lemmas.Option.{same_Some, some_pair_parts}
 use Rattle.std.proofs.lemmas.List.{get_or_past, get_or-set_same, get_or-set_other, length-set, get_or_append_left, get_or_push, length_push}
-use Rattle.codex_values.specs.Value.{Value}
-use Rattle.two_d.specs.Meaning.{Inputs, no_inputs, Outcome, Cell, quiet, Effect, Done, Starts, returned}
+use Rattle.two_d.specs.Meaning.{Inputs, Outcome, Cell, quiet, Effect, Done, Starts, returned}
 use Rattle.two_d.specs.Programs.{Program, BoxForm, main_of, module_at, box_at, box_count}
-use Rattle.two_d.specs.Steps.{Event, Fire, End, Instance, Table, nobody, instance_at, begun, fired, is_live, wires, firing, is_ready, with_cell, set_cell, fire, end_of, ended, deliver, step, start, after, EachReady}
+use Rattle.two_d.specs.Steps.{Event, Fire, End, Instance, Table, nobody, instance_at, begun, fired, wires, is_ready, with_cell, set_cell, fire, end_of, ended, deliver, step, start, after, EachReady}
 use Rattle.two_d.specs.Trees.{call}
 use Rattle.two_d.proofs.State.{live_within}
 use Rattle.two_d.proofs.Ending.{over-ready}

@@ -1,14 +1,14 @@
 -- Tests that hold.
 use Rattle.std.specs.Prelude.{◌≡◌, ℕ, zero, suc, List, [], ◌∷◌, Option, Some, None, Bool, true, false, not, ◌&&◌, ◌||◌, slice_get}
 use Rattle.std.specs.List.{list_any}
-use Rattle.std.proofs.Common.{refl, sym, ◌∙◌, arith, ◌⊎◌, inl, inr, eq-eqb}
+use Rattle.std.proofs.Common.{refl, eq-eqb}
 use Rattle.two_d.specs.declared.module.Origin.{Origin}
 use Rattle.two_d.specs.declared.module.Origin.TheVariants.{North, West, South, East}
 use Rattle.two_d.specs.declared.module.To.{To}
 use Rattle.two_d.specs.declared.module.To.TheVariants.{N, W, Exit}
 use Rattle.two_d.specs.declared.command.Side.{Side}
 use Rattle.two_d.specs.declared.command.Side.TheVariants.{S, E}
-use Rattle.two_d.specs.Programs.{BoxForm, ModuleForm, is_name}
+use Rattle.two_d.specs.Programs.{BoxForm, ModuleForm}
 use Rattle.two_d.specs.Sound.{Comes}
 use Rattle.two_d.proofs.Listed.{is_name-true}
 use Rattle.type_sheet.specs.Said.{is_side}

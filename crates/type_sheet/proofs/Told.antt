@@ -1,16 +1,16 @@
 -- Where the boxes of a module have an order, what the wires carry is told by what the wires carry.
-use Rattle.std.specs.Prelude.{◌≡◌, ℕ, zero, suc, ◌+◌, ◌<◌, ◌≤◌, List, [], ◌∷◌, length, slice_get, Option, Some, None}
+use Rattle.std.specs.Prelude.{◌≡◌, ℕ, zero, suc, ◌<◌, ◌≤◌, List, [], ◌∷◌, length, Option, Some, None}
 use Rattle.std.specs.Option.{option_and_then}
-use Rattle.std.proofs.Common.{refl, sym, ◌∙◌, ap, arith, ◌⊎◌, inl, inr}
+use Rattle.std.proofs.Common.{refl, sym, ◌∙◌, ap, arith, inl, inr}
 use Rattle.std.proofs.lemmas.Bool.{cases_lt}
 use Rattle.std.proofs.lemmas.Option.{slice_get_past}
 use Rattle.two_d.specs.declared.module.Origin.{Origin}
 use Rattle.two_d.specs.declared.module.Origin.TheVariants.{North, West, South, East}
 use Rattle.two_d.specs.declared.command.Side.{Side}
 use Rattle.two_d.specs.declared.command.Side.TheVariants.{S, E}
-use Rattle.two_d.specs.Programs.{BoxForm, ModuleForm, Program, module_at, box_at, box_count}
+use Rattle.two_d.specs.Programs.{BoxForm, Program, module_at, box_at, box_count}
 use Rattle.two_d.specs.Sound.{IsOrder}
-use Rattle.two_d.proofs.Sourced.{IsAmong, IsFrom, SourcesAmong, IsSourced, sourced, among_order}
+use Rattle.two_d.proofs.Sourced.{IsFrom, SourcesAmong, IsSourced, sourced, among_order}
 use Rattle.two_d.proofs.Pulling.{behind, among-behind, length-behind}
 use Rattle.type_sheet.specs.declared.line.SheetRow.{SheetRow}
 use Rattle.type_sheet.specs.Types.{InputTypes}

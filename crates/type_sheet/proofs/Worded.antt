@@ -1,7 +1,7 @@
 -- The words of a line are the parts of its text between spaces.
-use Rattle.std.specs.Prelude.{◌≡◌, ℕ, ◌<◌, ◌^◌, ◌==◌, Bool, true, false, List, [], ◌∷◌, ◌++◌, Option, Some, None, IfSome, codes, decimal}
+use Rattle.std.specs.Prelude.{◌≡◌, ℕ, ◌==◌, Bool, true, false, List, [], ◌∷◌, ◌++◌, Option, Some, None, IfSome, decimal}
 use Rattle.std.specs.List.{join_with_byte, slice_split}
-use Rattle.std.proofs.Common.{refl, sym, ◌∙◌, ap, subst, arith, eq-eqb, eqb-true}
+use Rattle.std.proofs.Common.{refl, sym, ◌∙◌, ap, subst, eq-eqb, eqb-true}
 use Rattle.std.proofs.lemmas.List.Splits.{join_with_byte-slice_split}
 use Rattle.two_d.specs.Canonical.{shown_side}
 use Rattle.two_d.specs.Names.{IsName, IsNameByte}
@@ -11,7 +11,7 @@ use Rattle.type_sheet.specs.declared.line.Form.{Form as KindForm}
 use Rattle.type_sheet.specs.declared.line.Form.TheVariants.{Unit as UnitForm, Pair, Sum}
 use Rattle.type_sheet.specs.declared.line.Line.{Line}
 use Rattle.type_sheet.specs.declared.line.Line.TheVariants.{Kind, Module, Wire, Of}
-use Rattle.type_sheet.specs.Lines.{form_text, line_text, IsForm, IsLine, IsTextOf}
+use Rattle.type_sheet.specs.Lines.{IsForm, IsLine, IsTextOf}
 use Rattle.type_sheet.specs.inner.Cut.{before, behind_byte}
 use Rattle.type_sheet.specs.inner.Words.{entry_words, keyword, said_words, AreWordsOf}
 use Rattle.type_sheet.proofs.Cuts.{parts_in, cut_parts}

@@ -1,15 +1,16 @@
 -- Whether a program fits a sheet, or the first reason why not.
-use Rattle.std.specs.Prelude.{ℕ, ◌-◌, List, slice_get, Option, Some, None, Bool, true, false, not, is_some, IsTrue, ◌&&◌, ◌||◌}
+use Rattle.std.specs.Prelude.{ℕ, ◌-◌, ◌<◌, List, length, slice_get, Option, Some, None, Bool, true, false, not, is_some, IsTrue, ◌&&◌, ◌||◌}
 use Rattle.std.specs.List.{list_all}
 use Rattle.std.specs.Option.{option_map_or}
 use Rattle.two_d.specs.declared.module.Origin.{Origin}
-use Rattle.two_d.specs.Programs.{BoxForm, ModuleForm, Program, find, is_name}
+use Rattle.two_d.specs.Programs.{BoxForm, ModuleForm, Program, find, is_name, module_at}
 use Rattle.two_d.specs.Reading.{Reading, the, refuse, each_from, ◌>>=◌, ◌>>◌}
 use Rattle.two_d.specs.Sound.{IsKeptOrder}
 use Rattle.two_d.specs.Trees as tree
 use Rattle.two_d.specs.Trees.{Tree, Form, send, case, split, call}
 use Rattle.two_d.specs.declared.command.Side.{Side}
 use Rattle.two_d.specs.declared.command.Side.TheVariants.{S, E}
+use Rattle.type_sheet.specs.declared.fault.At.{At}
 use Rattle.type_sheet.specs.declared.fault.At.TheVariants.{Module as in_module, Bx, Exit}
 use Rattle.type_sheet.specs.declared.fault.SheetFault.{SheetFault}
 use Rattle.type_sheet.specs.declared.fault.SheetFault.TheVariants.{NoPlace, NoLine, Mismatch}
@@ -167,3 +168,15 @@ fits_of P rows = do
   places_there P rows
   each_from (lines_there rows) 0 P
   each_from (module_fits rows) 0 P
+
+-- the module is there, and the box or the exit of it
+abbrev pub IsThere : Program → At → Type 0
+IsThere P (in_module i) = i < length P
+IsThere P (Bx i b) = (i < length P) × (b < length (module_at P i).boxes)
+IsThere P (Exit i j) = (i < length P) × (j < length (module_at P i).exits)
+
+-- where the fault tells a place, it is there
+abbrev pub TellsPlace : Program → SheetFault → Type 0
+TellsPlace P (NoLine at) = IsThere P at
+TellsPlace P (Mismatch at) = IsThere P at
+TellsPlace P fault = Unit {0}

@@ -2,7 +2,6 @@
 use Rattle.std.specs.Prelude.{◌≡◌, ℕ, ◌<◌, ◌^◌, List, [], ◌++◌, Option, Some, None, IfSome, codes, decimal}
 use Rattle.two_d.specs.Canonical.{shown_side}
 use Rattle.two_d.specs.Names.{IsName}
-use Rattle.two_d.specs.declared.command.Side.{Side}
 use Rattle.type_sheet.specs.declared.line.Form.{Form as KindForm}
 use Rattle.type_sheet.specs.declared.line.Form.TheVariants.{Unit as UnitForm, Pair, Sum}
 use Rattle.type_sheet.specs.declared.line.Line.{Line}

@@ -1,4 +1,4 @@
-use Rattle.std.proofs.Common.{◌≡◌, ℕ, length, slice_get, Some, refl, sym, ◌∙◌, arith}
+use Rattle.std.proofs.Common.{sym, ◌∙◌, arith}
 use Rattle.two_d.specs.Programs.{module_of}
 use Rattle.two_d.proofs.TableLemmas.{goes_on_next, stops_at, goes_on_end}
 use Rattle.type_sheet.specs.declared.fault.At.TheVariants.{Bx}

@@ -1,6 +1,6 @@
 use Rattle.std.specs.Prelude.{Option, None, slice_index_or}
 use Rattle.std.specs.Option.{option_copied}
-use Rattle.std.proofs.Common.{◌≡◌, ℕ, length, slice_get, Some, refl, sym, ◌∙◌, arith}
+use Rattle.std.proofs.Common.{◌≡◌, slice_get, Some, sym, ◌∙◌, arith}
 use Rattle.std.proofs.lemmas.Option.{slice_get-get_or}
 use Rattle.two_d.specs.declared.module.Origin.{Origin}
 use Rattle.two_d.proofs.TableLemmas.{goes_on_next, stops_at, goes_on_end}

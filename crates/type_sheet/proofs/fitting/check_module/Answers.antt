@@ -1,12 +1,12 @@
 use Rattle.std.specs.Prelude.{slice_index_or, Option, None, Result, map}
 use Rattle.std.specs.Option.{option_copied, option_map}
-use Rattle.std.proofs.Common.{◌≡◌, ℕ, ◌+◌, ◌<◌, ◌≤◌, ◌^◌, List, length, slice_get, Some, Ok, Err, sym, ◌∙◌, ap, arith, subst, true, false}
+use Rattle.std.proofs.Common.{◌≡◌, ℕ, ◌<◌, ◌≤◌, List, length, slice_get, Some, Err, sym, ◌∙◌, ap, arith, subst}
 use Rattle.std.proofs.lemmas.List.{length-map, get_or_past}
 use Rattle.std.proofs.lemmas.Option.{slice_get-get_or}
 use Rattle.two_d.specs.declared.module.BoxRow.{BoxRow}
 use Rattle.two_d.specs.declared.module.Origin.{Origin}
-use Rattle.two_d.specs.Programs.{BoxForm, ModuleForm, box_of, module_of}
-use Rattle.two_d.specs.Reading.{Reading, Gives, Then, it, goes_on, stops, each_from}
+use Rattle.two_d.specs.Programs.{ModuleForm, box_of, module_of}
+use Rattle.two_d.specs.Reading.{Gives, it, goes_on, stops, each_from}
 use Rattle.two_d.specs.Sound.{IsKeptOrder}
 use Rattle.type_sheet.proofs.Holes.{box_in_order}
 use Rattle.two_d.proofs.TableLemmas.{goes_on_first, goes_on_next, stops_at, goes_on_end, row_there}
@@ -21,7 +21,7 @@ use Rattle.type_sheet.specs.Sheets.{fault_of}
 use Rattle.type_sheet.specs.Fits.{box_fits, boxes_fit, exits_fit, wire_fits, module_fits, want}
 use Rattle.type_sheet.specs.inner.Carried.{types_in}
 use Rattle.type_sheet.proofs.Ordered.{start-known, known-next, rule-same, all-known}
-use Rattle.type_sheet.proofs.Wanting.{wanted-ok, wanted-err, gives-through, gives-behind}
+use Rattle.type_sheet.proofs.Wanting.{wanted-ok, wanted-err, gives-through}
 use Rattle.type_sheet.proofs.fitting.check_module.Goals as goal
 
 row_at : (rows slice : List BoxRow) → slice ≡ rows → (b : ℕ) (row : BoxRow) → b < length (map box_of rows) → row ≡ slice_index_or slice b row →

@@ -1,5 +1,5 @@
-use Rattle.std.specs.Prelude.{is_some, not, map}
-use Rattle.std.proofs.Common.{◌≡◌, ◌+◌, true, false, List, sym, ◌∙◌, ap, subst, Err, refl}
+use Rattle.std.specs.Prelude.{is_some, not}
+use Rattle.std.proofs.Common.{◌≡◌, true, false, List, ◌∙◌, ap, subst}
 use Rattle.two_d.specs.Programs.{module_of, box_of}
 use Rattle.two_d.specs.Reading.{stops, each_from, Gives}
 use Rattle.two_d.specs.declared.module.BoxRow.{BoxRow}

@@ -1,4 +1,4 @@
-use Rattle.std.proofs.Common.{◌≡◌, ℕ, length, slice_get, Some, refl, sym, ◌∙◌, ap, arith, Bool}
+use Rattle.std.proofs.Common.{◌≡◌, length, slice_get, Some, refl, sym, ◌∙◌, arith}
 use Rattle.std.proofs.lemmas.Option.{slice_get_read}
 use Rattle.two_d.proofs.TableLemmas.{goes_on_first, goes_on_next, stops_at, goes_on_end}
 use Rattle.type_sheet.specs.declared.fault.SheetFault.TheVariants.{NoPlace}

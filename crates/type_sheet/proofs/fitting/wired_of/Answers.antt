@@ -1,4 +1,4 @@
-use Rattle.std.proofs.Common.{◌≡◌, ℕ, length, slice_get, Some, sym, ◌∙◌, arith}
+use Rattle.std.proofs.Common.{slice_get, sym, ◌∙◌, arith}
 use Rattle.std.proofs.lemmas.List.{length-map}
 use Rattle.std.proofs.lemmas.Option.{slice_get-map}
 use Rattle.two_d.specs.Programs.{module_of}

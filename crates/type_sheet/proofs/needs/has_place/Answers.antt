@@ -1,5 +1,5 @@
-use Rattle.std.specs.Prelude.{Bool, List, false}
-use Rattle.std.proofs.Common.{◌≡◌, ℕ, ◌<◌, ◌-◌, length, slice_get, Some, refl, arith, ◌∙◌, ap}
+use Rattle.std.specs.Prelude.{Bool, List}
+use Rattle.std.proofs.Common.{◌≡◌, ℕ, ◌-◌, length, slice_get, Some, refl, arith, ◌∙◌, ap}
 use Rattle.std.proofs.lemmas.Option.{slice_get_read}
 use Rattle.two_d.specs.Programs.{Program, ModuleForm, find, module_of}
 use Rattle.type_sheet.specs.Fits.{needs_wire, needs_of, of_module}

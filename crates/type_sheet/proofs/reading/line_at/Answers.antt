@@ -1,4 +1,4 @@
-use Rattle.std.proofs.Common.{◌≡◌, ◌∙◌, ap}
+use Rattle.std.proofs.Common.{◌∙◌, ap}
 use Rattle.type_sheet.specs.inner.Words.{words_read}
 use Rattle.type_sheet.proofs.Lined.{text_read}
 use Rattle.type_sheet.proofs.reading.line_at.Goals as goal

@@ -1,6 +1,6 @@
 use Rattle.std.specs.Prelude.{codes}
 use Rattle.std.specs.Option.{option_copied}
-use Rattle.std.proofs.Common.{◌≡◌, ◌∷◌, [], ◌∙◌, ap, rules, List, ℕ, take, drop, length, ◌-◌, slice_index_or}
+use Rattle.std.proofs.Common.{◌≡◌, ◌∷◌, [], ◌∙◌, ap, rules, List, ℕ, slice_index_or}
 use Rattle.type_sheet.specs.inner.Words.{entry_words, words_read}
 use Rattle.type_sheet.proofs.Lined.{no_word, one_word, just_two, module_read}
 use Rattle.type_sheet.proofs.reading.module_of.Goals as goal

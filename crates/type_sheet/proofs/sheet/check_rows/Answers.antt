@@ -1,6 +1,5 @@
-use Rattle.std.proofs.Common.{◌≡◌}
 use Rattle.std.proofs.lemmas.Result.{err_from_is_err_and}
-use Rattle.two_d.specs.Reading.{Then, stops, each_from}
+use Rattle.two_d.specs.Reading.{stops, each_from}
 use Rattle.two_d.proofs.TableLemmas.{refuses_through}
 use Rattle.type_sheet.specs.Sheets.{fault_of, declares_anew, uses_declared}
 use Rattle.type_sheet.proofs.RowsRead.{rows_pass}

@@ -1,4 +1,4 @@
-use Rattle.std.proofs.Common.{◌≡◌, length, arith}
+use Rattle.std.proofs.Common.{length, arith}
 use Rattle.std.proofs.lemmas.Option.{slice_get_within, get_or_from_slice_get}
 use Rattle.two_d.proofs.TableLemmas.{stops_at, goes_on_end}
 use Rattle.type_sheet.specs.declared.fault.SheetFault.TheVariants.{SameLine}

@@ -1,4 +1,4 @@
-use Rattle.std.specs.Prelude.{◌≡◌, ◌<◌, List, Ok, length}
+use Rattle.std.specs.Prelude.{◌<◌, List, Ok, length}
 use Rattle.std.specs.Str.Lines.{lines}
 use Rattle.std.proofs.Common.{subst, arith}
 use Rattle.std.proofs.lemmas.Result.{err_from_is_err_and}

@@ -1,5 +1,5 @@
 use Rattle.std.specs.Str.Lines.{lines}
-use Rattle.std.proofs.Common.{◌≡◌, ◌∷◌, subst, arith}
+use Rattle.std.proofs.Common.{arith}
 use Rattle.std.proofs.lemmas.Result.{err_from_is_err_and}
 use Rattle.two_d.proofs.TableLemmas.{refuses_through}
 use Rattle.type_sheet.specs.Sheets.{fault_of, row_of, rows_from}

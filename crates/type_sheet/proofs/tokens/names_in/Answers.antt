@@ -1,8 +1,7 @@
-use Rattle.std.specs.Prelude.{◌≡◌, ◌++◌, ◌∷◌, ℕ, List, Option, Some, None}
-use Rattle.std.specs.Option.{option_copied}
+use Rattle.std.specs.Prelude.{◌≡◌, Some, None}
 use Rattle.std.proofs.Common.{refl, sym, ◌∙◌, subst}
 use Rattle.two_d.specs.Names.{IsName}
-use Rattle.type_sheet.specs.inner.Cut.{before, behind_byte}
+use Rattle.type_sheet.specs.inner.Cut.{behind_byte}
 use Rattle.type_sheet.proofs.OneLine.{run_name}
 use Rattle.type_sheet.proofs.Worded.{cut_joined, cut_told}
 use Rattle.type_sheet.proofs.tokens.names_in.Goals as goal

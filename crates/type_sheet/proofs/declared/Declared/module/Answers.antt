@@ -1,6 +1,6 @@
 use Rattle.std.proofs.Common.{◌∙◌, ap}
 use Rattle.type_sheet.proofs.Looked.{module-told}
-use Rattle.type_sheet.specs.inner.Subjects.{form_in_line, module_in_line, wire_in_line, of_in_line}
+use Rattle.type_sheet.specs.inner.Subjects.{module_in_line}
 use Rattle.type_sheet.proofs.declared.Declared.module.Goals as goal
 
 pub returns : goal.returns

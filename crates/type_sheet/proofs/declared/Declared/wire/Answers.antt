@@ -1,6 +1,6 @@
 use Rattle.std.proofs.Common.{◌∙◌, ap}
 use Rattle.type_sheet.proofs.Looked.{wire-told}
-use Rattle.type_sheet.specs.inner.Subjects.{form_in_line, module_in_line, wire_in_line, of_in_line, line_of}
+use Rattle.type_sheet.specs.inner.Subjects.{wire_in_line, line_of}
 use Rattle.type_sheet.proofs.declared.Declared.wire.Goals as goal
 
 pub returns : goal.returns

@@ -1,9 +1,8 @@
-use Rattle.std.specs.Prelude.{true}
 use Rattle.std.specs.Option.{option_and_then}
-use Rattle.std.proofs.Common.{◌≡◌, sym, ◌∙◌, ap}
+use Rattle.std.proofs.Common.{sym, ◌∙◌, ap}
 use Rattle.two_d.specs.Programs.{box_of}
 use Rattle.type_sheet.specs.Said.{ModuleTypes}
-use Rattle.type_sheet.specs.Said.{module_line, north_type, west_type}
+use Rattle.type_sheet.specs.Said.{module_line}
 use Rattle.type_sheet.specs.Fits.{wire_fits}
 use Rattle.type_sheet.specs.inner.Carried.{types_in}
 use Rattle.type_sheet.proofs.typing.WireTypes.box_fits.Goals as goal

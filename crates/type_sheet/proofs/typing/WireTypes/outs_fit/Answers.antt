@@ -1,5 +1,5 @@
 use Rattle.std.specs.Prelude.{Bool}
-use Rattle.std.proofs.Common.{◌≡◌, ℕ, ◌<◌, false, true, length, slice_get, Some, refl, sym, ◌∙◌, ap, arith}
+use Rattle.std.proofs.Common.{◌≡◌, false, true, length, slice_get, Some, refl, sym, ◌∙◌, arith}
 use Rattle.std.proofs.lemmas.Option.{slice_get_read, slice_get_within}
 use Rattle.two_d.specs.declared.command.Exp.{Exp}
 use Rattle.two_d.specs.declared.command.Side.{Side}

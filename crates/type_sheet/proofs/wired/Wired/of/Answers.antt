@@ -1,15 +1,12 @@
-use Rattle.std.specs.Prelude.{Bool, ◌||◌, map, replicate, slice_index_or}
-use Rattle.std.specs.List.{list_any}
-use Rattle.std.proofs.Common.{◌≡◌, ℕ, ◌<◌, false, List, length, refl, sym, ◌∙◌, ap, arith, inl, inr}
-use Rattle.std.proofs.lemmas.Bool.{cases_lt}
+use Rattle.std.specs.Prelude.{replicate}
+use Rattle.std.proofs.Common.{◌≡◌, ℕ, ◌<◌, false, length, refl, sym, ◌∙◌, ap, arith}
 use Rattle.std.proofs.lemmas.List.{length-map, length-replicate, get_or-replicate}
 use Rattle.two_d.specs.declared.command.Side.{Side}
 use Rattle.two_d.specs.declared.command.Side.TheVariants.{S, E}
-use Rattle.two_d.specs.declared.module.Origin.{Origin}
 use Rattle.two_d.specs.Programs.{box_of, module_of}
 use Rattle.type_sheet.specs.declared.wired.Wired.{Wired}
-use Rattle.type_sheet.specs.Wires.{is_from, is_wired, origin_of}
-use Rattle.type_sheet.specs.inner.Carried.{leads, mark_of, IsWiredOf}
+use Rattle.type_sheet.specs.Wires.{origin_of}
+use Rattle.type_sheet.specs.inner.Carried.{mark_of}
 use Rattle.type_sheet.proofs.Outs.{any-rows}
 use Rattle.type_sheet.proofs.wired.Wired.of.Goals as goal
 
