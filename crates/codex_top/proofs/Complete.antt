@@ -30,6 +30,14 @@ use Rattle.two_d.specs.Programs.{Program}
 use Rattle.two_d.specs.Steps.{Choice, HasMeaning}
 use Rattle.two_d.specs.Texts.{text_of}
 use Rattle.two_d.proofs.OneMeaning.{one_meaning}
+use Rattle.type_sheet.specs.declared.line.SheetRow.{SheetRow}
+use Rattle.type_sheet.specs.Fits.{fits_of}
+use Rattle.type_sheet.specs.Sheets.{sheet_of}
+use Rattle.type_sheet.proofs.Answered.{fits_one}
+use Rattle.type_sheet.proofs.OneLine.{sheet_one}
+use Rattle.grid_draw.specs.Answers.{NoneTooWide, size}
+use Rattle.grid_draw.specs.declared.drawing.DrawFault.TheVariants.{TooWide, TooLong, Memory}
+use Rattle.grid_draw.specs.Layout.{drawing_of}
 use Rattle.lower_link.specs.Completes.{Completed, IsAmple, CompletesLaw}
 use Rattle.lower_link.specs.Follows.{Follows}
 use Rattle.lower_link.specs.Realises.{AreEnough, Realises}
@@ -41,15 +49,17 @@ use Rattle.codex_top.specs.declared.status.Status.TheVariants as status
 use Rattle.codex_top.specs.Calls.{Call, Has, IsOfCodex, Wrote, status_of_end}
 use Rattle.codex_top.specs.Commands.{Begins, CompiledInto, JobEnds, accepted_line}
 use Rattle.codex_top.specs.Commands as commands
-use Rattle.codex_top.specs.Completeness.{Answers, CompiledComplete, Completeness, EndsInTime, Fills, GridsComplete, IsUnfailed, ScrollsComplete, SelftestComplete}
+use Rattle.codex_top.specs.Completeness.{Answers, CompiledComplete, EndsInTime, Fills, GridsComplete, IsUnfailed, ScrollsComplete, SelftestComplete, TypesComplete}
 use Rattle.codex_top.specs.DebugCommand.{SessionSits, SessionEnds, end_of_session}
 use Rattle.codex_top.specs.DebugCommand as sessions
 use Rattle.codex_top.specs.Endings.{End}
 use Rattle.codex_top.specs.Evaluating.{finish_of, IsMeantWithin, IsPrinted, OutcomeEnds}
 use Rattle.codex_top.specs.Evaluating as evaluating
-use Rattle.codex_top.specs.Limits.{limits, most_input_bytes, most_lines, most_text_bytes}
+use Rattle.codex_top.specs.DrawCommand.{DrawingTold}
+use Rattle.codex_top.specs.DrawCommand as drawings
+use Rattle.codex_top.specs.Limits.{limits, most_grid_bytes, most_input_bytes, most_lines, most_text_bytes}
 use Rattle.codex_top.specs.Outside.{Streams, Outside}
-use Rattle.codex_top.specs.Reading.{IsInput, IsNoInput, IsNoProgram, IsNoScroll, IsNoText, IsProgram, IsScroll, IsText, ReadAs}
+use Rattle.codex_top.specs.Reading.{IsInput, IsNoInput, IsNoProgram, IsNoScroll, IsNoSheet, IsNoText, IsProgram, IsScroll, IsSheetOf, IsText, ReadAs}
 use Rattle.codex_top.specs.Reading as reading
 use Rattle.codex_top.specs.RunCommand.{ScrollRuns, ScrollEnds, end_of_run}
 use Rattle.codex_top.specs.RunCommand as runs
@@ -59,6 +69,9 @@ use Rattle.codex_top.specs.Sending.{IsSent, ScrollWritten, TextSent, end_after}
 use Rattle.codex_top.specs.Sending as sending
 use Rattle.codex_top.specs.TraceCommand.{EventsTold, trace_lines}
 use Rattle.codex_top.specs.TraceCommand as tracing
+use Rattle.codex_top.specs.TypeCommand.{FitTold, typed_line}
+use Rattle.codex_top.specs.TypeCommand as typing
+use Rattle.codex_top.specs.Typed.{HasSheet}
 use Rattle.codex_top.specs.Words.{Job, Asks}
 use Rattle.codex_top.specs.Words as jobs
 use Rattle.codex_top.proofs.Compiled.{AreWords, right_scroll, run_on, words_read}
@@ -86,7 +99,7 @@ pub record EndsFilled (c : Call) (out : List ℕ) (Is : List ℕ → Type 0) (en
 
 module _ (c : Call) (unfailed : IsUnfailed c) where
   -- the status of the end of a call in which nothing outside failed
-  unfailed_status : (job : Job) (e : Ended job c) → c.status ≡ status_of_end e.end
+  pub unfailed_status : (job : Job) (e : Ended job c) → c.status ≡ status_of_end e.end
   unfailed_status job e = elim (told_so c.err_before c.err_now e.end c.status e.told) [
     | inl is ↦ is
     | inr cut ↦ absurd (unfailed.err cut.1)
@@ -217,6 +230,22 @@ module _ (file text : List ℕ) (P : Program) (is : program_of text (Ok P)) (c :
   compile_done out end ran = grid_begun _ _ _ (λ e work. scroll_written c unfailed file text has
       out work.words (Realises P) work.realises e ran.0 work.written) end ran.1
 
+  drawing_done : NoneTooWide P → size P ≤ most_grid_bytes → (end : End) →
+      DrawingTold P c.before.streams.output c.now.streams.output end →
+      IsOrWants (EndsWith c (Ok Done) (drawing_of P)) end
+  drawing_done narrow short end (drawings.drawn _ drawable sent) =
+      text_sent c unfailed (drawing_of P) end sent
+  drawing_done narrow short _ (drawings.undrawn (TooWide n) (i, e, least) same) =
+      absurd (narrow i least.holds)
+  drawing_done narrow short _ (drawings.undrawn (TooLong n) (none, e, over) same) =
+      absurd (omega (arith, e, over, short))
+  drawing_done narrow short _ (drawings.undrawn Memory has same) = inr refl
+
+  draw_done : NoneTooWide P → size P ≤ most_grid_bytes → (end : End) →
+      JobEnds (jobs.draws file) c.before c.now end →
+      IsOrWants (EndsWith c (Ok Done) (drawing_of P)) end
+  draw_done narrow short end ran = grid_begun _ _ _ (drawing_done narrow short) end ran.1
+
   module _ (events : ℕ) (r : Meaning) (within : IsMeantWithin events P r) where
     outcome_done : (end : End) → OutcomeEnds events P c.before.streams.output c.now.streams.output
         end → IsOrWants (EndsWith c (Ok (finish_of r.outcome)) (text_of P r.outcome)) end
@@ -253,7 +282,7 @@ module _ (file text : List ℕ) (P : Program) (is : program_of text (Ok P)) (c :
         r.outcome)) end
     trace_done picks end ran = grid_begun _ _ _ (events_done picks) end ran.1
 
-grids : GridsComplete IsOfCodex
+pub grids : GridsComplete IsOfCodex
 grids = record {
   check = λ file text P is c call asks has unfailed.
       call_gives c unfailed (jobs.checks file) call asks (Ok Done) (accepted_line P)
@@ -261,6 +290,9 @@ grids = record {
   compile = λ file out text P is c call asks has unfailed.
       call_fills c unfailed (jobs.compiles file out) call asks out (Realises P)
       (compile_done file text P is c has unfailed out);
+  draw = λ file text P is narrow short c call asks has unfailed.
+      call_gives c unfailed (jobs.draws file) call asks (Ok Done) (drawing_of P)
+      (draw_done file text P is c has unfailed narrow short);
   eval = λ file text P picks events r is within c call asks has unfailed.
       call_gives c unfailed (jobs.evaluates file picks events) call asks (Ok (finish_of r.outcome))
       (text_of P r.outcome)
@@ -324,7 +356,7 @@ module _ (P : Program) (words : List ℕ) (blocks : List (ℕ × ℕ)) (small : 
       end ran.1
 
 -- a shelf that tells its files has one content for each name
-one_has : (o : Outside) (name xs ys : List ℕ) → Has name xs o → Has name ys o → xs ≡ ys
+pub one_has : (o : Outside) (name xs ys : List ℕ) → Has name xs o → Has name ys o → xs ≡ ys
 one_has o name xs ys f g =
     let files : Some f.files ≡ Some g.files = sym f.shelf_tells ∙ g.shelf_tells in
     let same : f.files ≡ g.files = cc in
@@ -373,7 +405,7 @@ module _ (file out text bytes : List ℕ) (P : Program) (r : Meaning) (is : prog
           (one_program text P Q is (read_as IsProgram IsNoProgram file text c.before c.now has Q
           read).reads) work)
 
-compiled : CompiledComplete IsOfCodex
+pub compiled : CompiledComplete IsOfCodex
 compiled file out text bytes P r is means ample c call asks has done wrote copy cycles enough d too
     runs there unfailed =
     let e = ended (jobs.compiles file out) c call asks in
@@ -480,7 +512,7 @@ module _ (c : Call) (unfailed : IsUnfailed c) where
         (λ xs u is sat. session_done ws.items xs.items u sat) e work)
         end ran.1
 
-scrolls : ScrollsComplete IsOfCodex
+pub scrolls : ScrollsComplete IsOfCodex
 scrolls = record {
   asm = λ file out text words few is c call asks has unfailed.
       these_words out words c (call_fills c unfailed (jobs.assembles file out) call asks out
@@ -506,7 +538,7 @@ told_selves number c unfailed end (selves.told found _ sent) =
     ]
 told_selves number c unfailed _ (selves.no_memory same) = inr refl
 
-selftest : SelftestComplete IsOfCodex
+pub selftest : SelftestComplete IsOfCodex
 selftest number c call asks held unfailed =
     let e = ended (jobs.selftests number) c call asks in
     let is = unfailed_status c unfailed (jobs.selftests number) e in
@@ -518,10 +550,40 @@ selftest number c call asks held unfailed =
       | inr none ↦ inr (is ∙ ap status_of_end none.0)
     ]
 
-pub completeness : Completeness IsOfCodex
-completeness = record {
-  grids = grids;
-  compiled = compiled;
-  scrolls = scrolls;
-  selftest = selftest;
-}
+-- `type`
+right_sheet : (P : Program) (lines : List ℕ) (rows : List SheetRow) → sheet_of lines (Ok rows) →
+    (l : Line) → IsNoSheet P lines l → ⊥
+right_sheet P lines rows is _ (reading.faulty fault bad) =
+    let clash : Ok rows ≡ Err fault = sheet_one lines (Ok rows) (Err fault) is bad in cc
+
+fit_done : (P : Program) (rows : List SheetRow) → fits_of P rows (Ok tt) → (c : Call) →
+    IsUnfailed c → (end : End) →
+    FitTold P rows c.before.streams.output c.now.streams.output end →
+    IsOrWants (EndsWith c (Ok Done) (typed_line P rows)) end
+fit_done P rows fit c unfailed end (typing.fits _ _ safe sent) =
+    text_sent c unfailed (typed_line P rows) end sent
+fit_done P rows fit c unfailed _ (typing.unfit fault bad same) =
+    let clash : Ok tt ≡ Err fault = fits_one P rows (Ok tt) (Err fault) fit bad in absurd (cc)
+
+module _ (file text sheet lines : List ℕ) (P : Program) (rows : List SheetRow)
+    (is : program_of text (Ok P)) (reads : sheet_of lines (Ok rows)) (fit : fits_of P rows (Ok tt))
+    (c : Call) (has : HasSheet file text sheet lines c.before) (unfailed : IsUnfailed c) where
+  sheet_done : (others : List SheetRow) (end : End) → sheet_of lines (Ok others) →
+      FitTold P others c.before.streams.output c.now.streams.output end →
+      IsOrWants (EndsWith c (Ok Done) (typed_line P rows)) end
+  sheet_done others end read told =
+      let e : Ok others ≡ Ok rows = sheet_one lines (Ok others) (Ok rows) read reads in
+      let same : others ≡ rows = cc in
+      fit_done P rows fit c unfailed end (subst (λ (xs : List SheetRow). FitTold P xs
+      c.before.streams.output c.now.streams.output end) same told)
+
+  types_done : (end : End) → JobEnds (jobs.types file sheet) c.before c.now end →
+      IsOrWants (EndsWith c (Ok Done) (typed_line P rows)) end
+  types_done end ran = grid_begun file text P is c has.program_there unfailed _ _ _
+      (λ e work. begun c unfailed IsSheetOf (IsNoSheet P) sheet lines has.sheet_there
+      (right_sheet P lines rows reads) _ _ _ sheet_done e work) end ran.1
+
+pub typed : TypesComplete IsOfCodex
+typed file text sheet lines P rows is reads fit c call asks has unfailed =
+    call_gives c unfailed (jobs.types file sheet) call asks (Ok Done) (typed_line P rows)
+    (types_done file text sheet lines P rows is reads fit c has unfailed)

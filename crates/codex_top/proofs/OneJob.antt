@@ -93,6 +93,8 @@ one_job _ _ _ (plain.dis file) (plain.dis _) = refl
 one_job _ _ _ (plain.debug file input) (plain.debug _ _) = refl
 one_job _ _ _ (plain.selftest number n i) (plain.selftest _ m j) =
     ap plain.selftests (one_number most_number (omega arith) number n m i j)
+one_job _ _ _ (plain.draw file) (plain.draw _) = refl
+one_job _ _ _ (plain.type file sheet) (plain.type _ _) = refl
 one_job _ _ _ (plain.save file number out n i) (plain.save _ _ _ m j) =
     ap (λ cycles. plain.saves file cycles out) (one_number most_made (omega arith) number n m i j)
 one_job _ _ _ (plain.resume file number n i) (plain.resume _ _ m j) =

@@ -10,16 +10,18 @@ use Rattle.lower_link.specs.Follows.{Follows}
 use Rattle.codex_top.specs.declared.status.Status.{Status}
 use Rattle.codex_top.specs.declared.line.Line.{Line}
 use Rattle.codex_top.specs.declared.line.Line.TheVariants.{Usage, NoMemory}
-use Rattle.codex_top.specs.Words.{Job, checks, evaluates, traces, compiles, runs, assembles, lists, debugs, selftests, saves, resumes, Asks}
+use Rattle.codex_top.specs.Words.{Job, checks, evaluates, traces, compiles, runs, assembles, lists, debugs, selftests, draws, types, saves, resumes, Asks}
 use Rattle.codex_top.specs.Outside.{Shelved, Stream, Outside, IsOnlyRead, IsOnlyWritten}
 use Rattle.codex_top.specs.Endings.{End, IsTold}
-use Rattle.codex_top.specs.Reading.{ProgramRead, ScrollRead, TextRead, InputRead, ImageRead}
+use Rattle.codex_top.specs.Reading.{ProgramRead, ScrollRead, TextRead, InputRead, SheetRead, ImageRead}
 use Rattle.codex_top.specs.Sending.{TextSent, ScrollWritten}
 use Rattle.codex_top.specs.Evaluating.{OutcomeEnds}
 use Rattle.codex_top.specs.TraceCommand.{EventsTold}
 use Rattle.codex_top.specs.RunCommand.{ScrollEnds}
 use Rattle.codex_top.specs.DebugCommand.{SessionEnds}
 use Rattle.codex_top.specs.SelftestCommand.{SelftestEnds}
+use Rattle.codex_top.specs.DrawCommand.{DrawingTold}
+use Rattle.codex_top.specs.TypeCommand.{FitTold}
 use Rattle.codex_top.specs.SaveCommand.{SavesInto}
 use Rattle.codex_top.specs.ResumeCommand.{MachineEnds}
 use Rattle.codex_top.specs.Boxes.{boxes_in}
@@ -102,6 +104,21 @@ DebugCommandEnds file input before now =
     (λ words. Begins (InputRead input before.shelf now.shelf) (now.streams ≡ before.streams)
     (λ bytes. SessionEnds words.items bytes.items before.streams now.streams))
 
+-- `draw`: the output receives the drawing of the program
+abbrev pub DrawEnds : (file : List ℕ) (shelf_before shelf_now : Shelved) (before now : Stream) →
+    End → Type 0
+DrawEnds file shelf_before shelf_now before now =
+    Begins (ProgramRead file shelf_before shelf_now) (now ≡ before)
+    (λ program. DrawingTold program before now)
+
+-- `type`: the program's file is read first, and then that of its sheet; whether it fits is told
+abbrev pub TypeEnds : (file sheet : List ℕ) (shelf_before shelf_now : Shelved)
+    (before now : Stream) → End → Type 0
+TypeEnds file sheet shelf_before shelf_now before now =
+    Begins (ProgramRead file shelf_before shelf_now) (now ≡ before)
+    (λ program. Begins (SheetRead program sheet shelf_before shelf_now) (now ≡ before)
+    (λ rows. FitTold program rows before now))
+
 -- `save`: the words of the scroll run, and the image of the machine is written into a file
 abbrev pub SaveEnds :
     (file : List ℕ) (cycles : ℕ) (out : List ℕ) (before now : Outside) → End → Type 0
@@ -142,6 +159,12 @@ JobEnds (debugs file input) before now end =
 JobEnds (selftests number) before now end =
     (now.shelf ≡ before.shelf) × (now.streams.input ≡ before.streams.input)
     × SelftestEnds number before.streams.output now.streams.output end
+JobEnds (draws file) before now end =
+    IsOnlyWritten before now
+    × DrawEnds file before.shelf now.shelf before.streams.output now.streams.output end
+JobEnds (types file sheet) before now end =
+    IsOnlyWritten before now
+    × TypeEnds file sheet before.shelf now.shelf before.streams.output now.streams.output end
 JobEnds (saves file cycles out) before now end = SaveEnds file cycles out before now end
 JobEnds (resumes file cycles) before now end =
     IsOnlyRead before.shelf now.shelf × ResumeEnds file cycles before now end

@@ -2,7 +2,7 @@
 use Rattle.std.specs.Prelude.{ℕ, List, Option, Some, None}
 use Rattle.fire_eval.specs.Evaluation.{choice_of}
 use Rattle.codex_top.specs.declared.words.Job.{Job}
-use Rattle.codex_top.specs.declared.words.Job.TheVariants.{Check, Eval, Trace, Compile, Run, Asm, Dis, Debug, Selftest, Save, Resume}
+use Rattle.codex_top.specs.declared.words.Job.TheVariants.{Check, Eval, Trace, Compile, Run, Asm, Dis, Debug, Selftest, Draw, Types, Save, Resume}
 use Rattle.codex_top.specs.Words as plain
 
 abbrev pub work_of : Job → plain.Job
@@ -15,6 +15,8 @@ work_of (Asm file out) = plain.assembles file.now out.now
 work_of (Dis file) = plain.lists file.now
 work_of (Debug file input) = plain.debugs file.now input.now
 work_of (Selftest number) = plain.selftests number
+work_of (Draw file) = plain.draws file.now
+work_of (Types file sheet) = plain.types file.now sheet.now
 work_of (Save file cycles out) = plain.saves file.now cycles out.now
 work_of (Resume file cycles) = plain.resumes file.now cycles
 

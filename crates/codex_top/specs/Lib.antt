@@ -14,11 +14,16 @@ pub mod TraceCommand
 pub mod RunCommand
 pub mod DebugCommand
 pub mod Boxes
+pub mod DrawCommand
+pub mod TypeCommand
 pub mod SelftestCommand
 pub mod SaveCommand
 pub mod ResumeCommand
 pub mod Commands
 pub mod Calls
 pub mod Headline
+pub mod Drawn
+pub mod Typed
 pub mod Completeness
+pub mod SavedRuns
 pub mod inner

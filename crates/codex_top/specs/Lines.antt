@@ -5,7 +5,7 @@ use Rattle.um_machine.specs.Stops.{stop_name}
 use Rattle.codex_top.specs.declared.status.Status.{Status}
 use Rattle.codex_top.specs.declared.status.Status.TheVariants as status
 use Rattle.codex_top.specs.declared.refusal.After.{After}
-use Rattle.codex_top.specs.declared.refusal.After.TheVariants.{Nothing, Number, At}
+use Rattle.codex_top.specs.declared.refusal.After.TheVariants.{Nothing, Number, At, InModule, InBox, InExit}
 use Rattle.codex_top.specs.declared.line.Limit.{Limit}
 use Rattle.codex_top.specs.declared.line.Limit.TheVariants.{ArraysFull, WordsFull}
 use Rattle.codex_top.specs.declared.line.Counted.{Counted}
@@ -38,7 +38,8 @@ counted_name Lines = codes "lines"
 abbrev pub usage_pieces : List (List ℕ)
 usage_pieces =
     codes "usage: check F | eval F [PICKS [N]] | trace F PICKS N | compile F OUT | run F [N]"
-    ∷ codes " | asm F OUT | dis F | debug F INPUT | selftest N | save F N OUT | resume F N\n" ∷ []
+    ∷ codes " | asm F OUT | dis F | debug F INPUT | selftest N | draw F | type F SHEET"
+    ∷ codes " | save F N OUT | resume F N\n" ∷ []
 
 -- the pieces of what comes after the name of a refusal, to the end of the line
 abbrev pub after_pieces : After → List (List ℕ)
@@ -46,6 +47,11 @@ after_pieces Nothing = codes "\n" ∷ []
 after_pieces (Number count) = codes " " ∷ decimal count ∷ codes "\n" ∷ []
 after_pieces (At place) =
     codes " at " ∷ decimal place.row ∷ codes ":" ∷ decimal place.col ∷ codes "\n" ∷ []
+after_pieces (InModule name) = codes " " ∷ name ∷ codes "\n" ∷ []
+after_pieces (InBox name number) =
+    codes " " ∷ name ∷ codes " " ∷ decimal number ∷ codes "\n" ∷ []
+after_pieces (InExit name number) =
+    codes " " ∷ name ∷ codes " exit " ∷ decimal number ∷ codes "\n" ∷ []
 
 -- the pieces of the line of a refusal
 abbrev pub refusal_pieces : RefusalView → List (List ℕ)

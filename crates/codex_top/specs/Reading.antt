@@ -12,6 +12,9 @@ use Rattle.two_d.specs.Faults.{TextFault}
 use Rattle.two_d.specs.Program.{program_of}
 use Rattle.two_d.specs.Programs.{Program}
 use Rattle.two_d.specs.Weights.{weight}
+use Rattle.type_sheet.specs.declared.fault.SheetFault.{SheetFault}
+use Rattle.type_sheet.specs.declared.line.SheetRow.{SheetRow}
+use Rattle.type_sheet.specs.Sheets.{sheet_of}
 use Rattle.codex_top.specs.declared.line.Line.{Line}
 use Rattle.codex_top.specs.declared.line.Line.TheVariants.{ReadFault, NoMemory}
 use Rattle.codex_top.specs.Limits.{most_text_bytes, most_input_bytes}
@@ -71,6 +74,14 @@ pub record IsInput (held : List ℕ) (bytes : Vec ℕ Global) : Type 0 where
 pub data IsNoInput (held : List ℕ) : Line → Type 0 where
   too_long : most_input_bytes < length held → IsNoInput held refusals.input_too_long
 
+-- a sheet of types for a program: the text has these rows; or its first fault
+abbrev pub IsSheetOf : (text : List ℕ) → List SheetRow → Type 0
+IsSheetOf text rows = sheet_of text (Ok rows)
+
+pub data IsNoSheet (P : Program) (text : List ℕ) : Line → Type 0 where
+  faulty : (fault : SheetFault) → sheet_of text (Err fault) →
+      IsNoSheet P text (refusals.sheet_line P fault)
+
 -- an image: the bytes are that of this machine, which has taken so many bytes of its input; or they
 -- are too many, or no image
 pub record IsImageOf (bytes : List ℕ) (saved : MachineView × ℕ) : Type 0 where
@@ -94,6 +105,10 @@ TextRead = ReadAs IsText IsNoText
 
 abbrev pub InputRead : (file : List ℕ) (before now : Shelved) → Result (Vec ℕ Global) Line → Type 0
 InputRead = ReadAs IsInput IsNoInput
+
+abbrev pub SheetRead :
+    Program → (file : List ℕ) (before now : Shelved) → Result (List SheetRow) Line → Type 0
+SheetRead P = ReadAs IsSheetOf (IsNoSheet P)
 
 abbrev pub ImageRead :
     (file : List ℕ) (before now : Shelved) → Result (MachineView × ℕ) Line → Type 0

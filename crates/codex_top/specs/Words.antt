@@ -17,6 +17,8 @@ pub data Job : Type 0 where
   lists : (file : List ℕ) → Job
   debugs : (file input : List ℕ) → Job
   selftests : (number : ℕ) → Job
+  draws : (file : List ℕ) → Job
+  types : (file sheet : List ℕ) → Job
   saves : (file : List ℕ) (cycles : ℕ) (out : List ℕ) → Job
   resumes : (file : List ℕ) (cycles : ℕ) → Job
 
@@ -58,6 +60,8 @@ pub data Asks : List (List ℕ) → Job → Type 0 where
   debug : (file input : List ℕ) → Asks (codes "debug" ∷ file ∷ input ∷ []) (debugs file input)
   selftest : (number : List ℕ) (n : ℕ) → IsDecimal most_number number n →
       Asks (codes "selftest" ∷ number ∷ []) (selftests n)
+  draw : (file : List ℕ) → Asks (codes "draw" ∷ file ∷ []) (draws file)
+  type : (file sheet : List ℕ) → Asks (codes "type" ∷ file ∷ sheet ∷ []) (types file sheet)
   save : (file number out : List ℕ) (n : ℕ) → IsDecimal most_made number n →
       Asks (codes "save" ∷ file ∷ number ∷ out ∷ []) (saves file n out)
   resume : (file number : List ℕ) (n : ℕ) → IsDecimal most_made number n →

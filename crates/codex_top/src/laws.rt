@@ -5,9 +5,12 @@ ghost use Rattle.umix_base.specs.Causes.{Rose};
 ghost use Rattle.codex_top.specs.Calls.{Call, IsOfCodex, status_of_end};
 ghost use Rattle.codex_top.specs.Commands.{JobEnds};
 ghost use Rattle.codex_top.specs.Completeness.{Completeness};
+ghost use Rattle.codex_top.specs.Drawn.{DoneIsDrawn};
 ghost use Rattle.codex_top.specs.Endings.{End, IsTold};
 ghost use Rattle.codex_top.specs.Headline.{Headline};
 ghost use Rattle.codex_top.specs.Outside.{Stream};
+ghost use Rattle.codex_top.specs.SavedRuns.{SavedRuns};
+ghost use Rattle.codex_top.specs.Typed.{DoneIsTyped};
 ghost use Rattle.codex_top.specs.Words.{Asks, Job};
 ghost use Rattle.codex_top.specs.declared.end.Finish.TheVariants as finish;
 ghost use Rattle.codex_top.specs.declared.status.Status.{Status};
@@ -22,11 +25,31 @@ pub fn headline()
     ensures { Headline IsOfCodex }
 {}
 
+/// Where `draw` of an accepted grid is done, what it wrote is a grid of the same program: so its text,
+/// each run of the evaluator and the words that realise it are the same.
+pub fn what_is_drawn_is_the_program()
+    ensures { DoneIsDrawn IsOfCodex }
+{}
+
+/// Where `type` of an accepted grid and a sheet is done, the grid's program is never stuck by the
+/// shape of a value: in none of its states is a box, each value on a wire has the wire's type, and
+/// the outcome is of main's result type or stuck by results.
+pub fn what_is_typed_is_safe()
+    ensures { DoneIsTyped IsOfCodex }
+{}
+
 /// Where no count of faults rises and the files are there, a command comes to its answer, or there
 /// is no memory: each command, and `run` of what was compiled, within the limits and for cycles
 /// enough.
 pub fn completeness()
     ensures { Completeness IsOfCodex }
+{}
+
+/// After `save` was done, and where the file still tells what it wrote: `resume` is never refused,
+/// and on the same input both calls are one run, told as one `run` of as many cycles tells it. See
+/// "To go on" in docs/IMAGES.md.
+pub fn saved_runs()
+    ensures { SavedRuns IsOfCodex }
 {}
 
 /// A list of words asks for one job at most.

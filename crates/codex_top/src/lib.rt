@@ -6,6 +6,7 @@ mod check;
 mod compile;
 mod debug;
 mod dis;
+mod draw;
 mod end;
 mod eval;
 mod evaluating;
@@ -23,6 +24,7 @@ mod starting;
 mod status;
 mod top;
 mod trace;
+mod types;
 mod words;
 
 pub use status::Status;

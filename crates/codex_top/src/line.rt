@@ -120,7 +120,8 @@ impl Counted {
 /// The pieces of the line that tells how the program is used.
 const USAGE: &[&[u8]] = &[
     b"usage: check F | eval F [PICKS [N]] | trace F PICKS N | compile F OUT | run F [N]",
-    b" | asm F OUT | dis F | debug F INPUT | selftest N | save F N OUT | resume F N\n",
+    b" | asm F OUT | dis F | debug F INPUT | selftest N | draw F | type F SHEET",
+    b" | save F N OUT | resume F N\n",
 ];
 
 impl Line {

@@ -1,17 +1,20 @@
 //! How the files of a command are read.
 
-ghost use Rattle.std.specs.Prelude.{◌≤◌, ◌+◌, ◌<◌, ◌^◌, IfOk};
+ghost use Rattle.std.specs.Prelude.{◌≤◌, ◌+◌, ◌<◌, ◌^◌, All, IfOk};
+ghost use Rattle.two_d.specs.Sound.{LeadsOn};
 ghost use Rattle.two_d.specs.Weights.{weight};
 ghost use Rattle.codex_top.specs.Limits.{most_grid_bytes};
 ghost use Rattle.codex_top.specs.Outside.{shelved, IsOnlyRead};
 ghost use Rattle.codex_top.specs.Reading.{ProgramRead, ScrollRead, TextRead, InputRead, ImageRead};
+ghost use Rattle.codex_top.specs.Reading.{SheetRead};
 ghost use Rattle.codex_top.specs.inner.FirstBytes.{FirstRead};
 
 use crate::line::Line;
-use crate::refusal::{grid_line, input_too_long, text_too_long};
+use crate::refusal::{grid_line, input_too_long, sheet_line, text_too_long};
 use module_table::check;
 use std::alloc::Global;
 use two_d::Program;
+use type_sheet::Sheet;
 use um_asm::assemble;
 use um_image::{MOST_IMAGE_BYTES, read_image};
 use um_machine::Machine;
@@ -20,6 +23,9 @@ use umix_base::{Shelf, ShelfFault};
 
 /// The most bytes of a grid.
 const MOST_GRID_BYTES: usize = 262_144;
+
+/// The most bytes of a sheet of types.
+const MOST_SHEET_BYTES: usize = 262_144;
 
 /// The most bytes of an assembly text, enough for every listing.
 pub const MOST_TEXT_BYTES: usize = 300_000_000;
@@ -32,6 +38,7 @@ pub fn read_program<F: Shelf>(alloc: Global, file: &str, shelf: &mut F) -> Resul
     ensures read { ProgramRead file.now
         (shelved F.Shelf shelf.old) (shelved F.Shelf shelf.new) result }
     ensures weighs { IfOk result (λ program. weight program ≤ most_grid_bytes) }
+    ensures entries { IfOk result (λ program. All LeadsOn program) }
     ensures shelf { IsOnlyRead (shelved F.Shelf shelf.old) (shelved F.Shelf shelf.new) }
 {
     let bytes = read_file(alloc, file, MOST_GRID_BYTES, shelf)?;
@@ -75,6 +82,24 @@ pub fn read_input<F: Shelf>(alloc: Global, file: &str, shelf: &mut F) -> Result<
         return Err(input_too_long());
     }
     Ok(bytes)
+}
+
+/// The sheet of types of a file, for a program, or the line that tells why there is none.
+pub fn read_types<F: Shelf>(
+    alloc: Global,
+    program: &Program,
+    file: &str,
+    shelf: &mut F,
+) -> Result<Sheet, Line>
+    ensures read { SheetRead program.now file.now
+        (shelved F.Shelf shelf.old) (shelved F.Shelf shelf.new) result }
+    ensures shelf { IsOnlyRead (shelved F.Shelf shelf.old) (shelved F.Shelf shelf.new) }
+{
+    let text = read_file(alloc, file, MOST_SHEET_BYTES, shelf)?;
+    match type_sheet::read_sheet(alloc, &text) {
+        Ok(sheet) => Ok(sheet),
+        Err(fault) => Err(sheet_line(alloc, program, fault)),
+    }
 }
 
 /// The machine of a file that is an image, and how many bytes of its input it has taken, or the line

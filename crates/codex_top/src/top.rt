@@ -15,6 +15,7 @@ use crate::check::check;
 use crate::compile::compile;
 use crate::debug::debug;
 use crate::dis::dis;
+use crate::draw::draw;
 use crate::end::End;
 use crate::eval::eval;
 use crate::line::Line;
@@ -23,6 +24,7 @@ use crate::run::run;
 use crate::save::save;
 use crate::selftest::selftest;
 use crate::trace::trace;
+use crate::types::types;
 use crate::words::{Job, job_of};
 use std::alloc::Global;
 use umix_base::{Shelf, Sink, Source};
@@ -111,6 +113,8 @@ fn work<F: Shelf, I: Source, O: Sink>(
         Job::Dis { file } => dis(alloc, file, shelf, out),
         Job::Debug { file, input: bytes } => debug(alloc, file, bytes, shelf, input, out),
         Job::Selftest { number } => selftest(alloc, number, out),
+        Job::Draw { file } => draw(alloc, file, shelf, out),
+        Job::Types { file, sheet } => types(alloc, file, sheet, shelf, out),
         Job::Save {
             file,
             cycles,

@@ -61,6 +61,15 @@ pub enum Job<'a> {
     Selftest {
         number: u64,
     },
+    /// To draw the program in `file`.
+    Draw {
+        file: &'a str,
+    },
+    /// To check the program in `file` against the sheet of declared types in the file `sheet`.
+    Types {
+        file: &'a str,
+        sheet: &'a str,
+    },
     /// To run the scroll in `file` for so many cycles at most, and to write the image of its machine
     /// into the file `out`.
     Save {
@@ -92,6 +101,8 @@ pub fn job_of(alloc: Global, words: &Vec<String>) -> Result<Option<Job<'_>>, Mem
         "dis" => Ok(dis_of(rest)),
         "debug" => Ok(debug_of(rest)),
         "selftest" => Ok(selftest_of(rest)),
+        "draw" => Ok(draw_of(rest)),
+        "type" => Ok(types_of(rest)),
         "save" => Ok(save_of(rest)),
         "resume" => Ok(resume_of(rest)),
         _ => Ok(None),
@@ -242,6 +253,29 @@ fn selftest_of(rest: &[String]) -> Option<Job<'_>>
         return None;
     };
     Some(Job::Selftest { number })
+}
+
+fn draw_of(rest: &[String]) -> Option<Job<'_>>
+    ensures { IsFound (codes "draw" ∷ map string_bytes rest.now) result }
+{
+    match rest {
+        [file] => Some(Job::Draw {
+            file: file.as_str(),
+        }),
+        _ => None,
+    }
+}
+
+fn types_of(rest: &[String]) -> Option<Job<'_>>
+    ensures { IsFound (codes "type" ∷ map string_bytes rest.now) result }
+{
+    match rest {
+        [file, sheet] => Some(Job::Types {
+            file: file.as_str(),
+            sheet: sheet.as_str(),
+        }),
+        _ => None,
+    }
 }
 
 fn save_of(rest: &[String]) -> Option<Job<'_>>

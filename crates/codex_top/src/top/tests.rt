@@ -1,5 +1,6 @@
 //! Worked rows of the commands, over an outside in memory.
 
+mod drawings;
 mod failures;
 mod grids;
 mod images;
@@ -7,6 +8,7 @@ mod limits;
 mod loads;
 mod selftests;
 mod sessions;
+mod types;
 
 use crate::{Status, codex};
 use std::alloc::Global;
@@ -266,7 +268,7 @@ fn words<'a>(words: &'a [&'a str], out: &'a [u8], err: &'a str, status: Status) 
 }
 
 const USAGE: &str =
-    "usage: check F | eval F [PICKS [N]] | trace F PICKS N | compile F OUT | run F [N] | asm F OUT | dis F | debug F INPUT | selftest N | save F N OUT | resume F N\n";
+    "usage: check F | eval F [PICKS [N]] | trace F PICKS N | compile F OUT | run F [N] | asm F OUT | dis F | debug F INPUT | selftest N | draw F | type F SHEET | save F N OUT | resume F N\n";
 
 #[test]
 fn command_lines(rt: HostRuntime) -> Result<(), Fail> {

@@ -9,7 +9,7 @@ pub returns-in-Ok-put : goal.returns-in-Ok-put
 returns-in-Ok-put g c =
     rw (c.in-Err.is, c.status-in-Ok-put.ensures) (whole c.in-Err.line c.in-Ok-put.ensures.appended c.in-Ok-put.ensures.cause.later)
 
-pub returns-in-Err-put : goal.returns-in-Err-put
-returns-in-Err-put g c =
+pub returns : goal.returns
+returns g c =
     let a = c.in-Err-put.ensures.appended in
     rw c.in-Err.is (cut c.in-Err.line a.0 a.1 a.2 (c.in-Err-put.ensures.cause.rose refl))

@@ -1,6 +1,8 @@
 //! Each call of the outside fails, one in each run: one table of commands.
 
+use super::drawings::DRAWN;
 use super::grids::{ADDITION, BAD_TURN, FIVE_EVENTS, SMALLEST, STUCK_INSIDE, SUM, bytes_of_lines};
+use super::images::IMAGE;
 use super::sessions::{COMMANDS, REPLIES};
 use super::{Fails, HELLO, USAGE, words_of_row};
 use crate::{Status, codex};
@@ -36,13 +38,17 @@ struct Came {
     err: MemSink,
 }
 
+// a sheet of types for the smallest grid
+const SHEET: &[u8] = b"type u = ()\nmodule main e u\nwire main 1 E u\n";
+
 // What a command on the file `f` comes to where this call fails, if it is made. The input is that
-// of a session, and the file `i` is empty.
+// of a session, the file `i` is empty, and `s` is a sheet of types.
 fn come_to(alloc: Global, words: &[&str], file: &[u8], fails: Fails) -> Result<Came, Fail> {
     let words = words_of_row(alloc, words)?;
     let mut shelf = MemShelf::new(alloc, fails.of_shelf(alloc)?);
     shelf.place("f", file.to_vec(alloc)?)?;
     shelf.place("i", Vec::new(alloc))?;
+    shelf.place("s", SHEET.to_vec(alloc)?)?;
     let mut input = MemSource::new(COMMANDS.to_vec(alloc)?, fails.of_input(alloc)?);
     let mut out = MemSink::new(alloc, 1000, fails.of_out(alloc)?)?;
     let mut err = MemSink::new(alloc, 1000, fails.of_err(alloc)?)?;
@@ -185,6 +191,13 @@ fn case<R: Abort + AllocGlobal>(
 // a scroll that writes its first byte of input
 const ECHO: &[u8] = &[0xb0, 0, 0, 0, 0xa0, 0, 0, 0, 0x70, 0, 0, 0];
 
+// the image of that scroll after its first cycle, which took an `s`
+const ECHO_IMAGE: &[u8] = &[
+    0x55, 0x4d, 0x49, 0x31, 0, 0, 0, 0x73, 0, 0, 0, 0, 0, 0, 0, 0, 0, 0, 0, 0, 0, 0, 0, 0, 0, 0, 0,
+    0, 0, 0, 0, 0, 0, 0, 0, 0, 0, 0, 0, 1, 0, 0, 0, 0, 0, 0, 0, 1, 0, 0, 0, 0, 0, 0, 0, 1, 0, 0, 0,
+    0, 0, 0, 0, 0, 0, 0, 0, 0, 0, 0, 0, 3, 0xb0, 0, 0, 0, 0xa0, 0, 0, 0, 0x70, 0, 0, 0,
+];
+
 const LISTING: &str = "set r0, 65\nout r0\nhalt\n";
 
 #[test]
@@ -252,6 +265,57 @@ fn on_scrolls_saved(rt: HostRuntime) -> Result<(), Fail> {
         divides,
         Status::MachineFault,
     )
+}
+
+#[test]
+fn on_images(rt: HostRuntime) -> Result<(), Fail> {
+    let spent = "budget 1 cycles\n";
+    case(
+        &rt,
+        &["resume", "f", "1"],
+        IMAGE,
+        (1, 0),
+        "",
+        "",
+        Status::Done,
+    )?;
+    case(
+        &rt,
+        &["resume", "f", "1"],
+        ECHO_IMAGE,
+        (1, 1),
+        "s",
+        spent,
+        Status::Budget,
+    )?;
+    case(
+        &rt,
+        &["resume", "f", "1"],
+        HELLO,
+        (1, 0),
+        "",
+        "refused 82 BadImage 0\n",
+        Status::Refused,
+    )
+}
+
+#[test]
+fn on_numbers(rt: HostRuntime) -> Result<(), Fail> {
+    let words = &["selftest", "2"];
+    let whole = come_to(rt.alloc(), words, b"", Fails::None)?;
+    assert_eq!(rt; whole.status, Status::Done);
+    assert!(rt; whole.out.bytes().ends_with(b" cycles\nok\n"));
+    fail_in_turn(&rt, words, b"", &whole, (0, 0))
+}
+
+#[test]
+fn on_drawings(rt: HostRuntime) -> Result<(), Fail> {
+    let words = &["draw", "f"];
+    let file = bytes_of_lines(rt.alloc(), &[SMALLEST])?;
+    let drawing = bytes_of_lines(rt.alloc(), &[DRAWN])?;
+    let whole = come_to(rt.alloc(), words, &file, Fails::None)?;
+    assert!(rt; is_told(&whole, Status::Done, &drawing, b""));
+    fail_in_turn(&rt, words, &file, &whole, (1, 0))
 }
 
 #[test]
@@ -324,5 +388,30 @@ fn on_grids_compiled(rt: HostRuntime) -> Result<(), Fail> {
         "",
         "",
         Status::Done,
+    )
+}
+
+#[test]
+fn on_grids_typed(rt: HostRuntime) -> Result<(), Fail> {
+    let file = bytes_of_lines(rt.alloc(), &[SMALLEST])?;
+    let typed = "typed 1 modules, 1 types\n";
+    let missing = "refused 76 NoLine main\n";
+    case(
+        &rt,
+        &["type", "f", "s"],
+        &file,
+        (2, 0),
+        typed,
+        "",
+        Status::Done,
+    )?;
+    case(
+        &rt,
+        &["type", "f", "i"],
+        &file,
+        (2, 0),
+        "",
+        missing,
+        Status::Refused,
     )
 }

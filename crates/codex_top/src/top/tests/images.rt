@@ -1,6 +1,7 @@
 //! Rows of the commands that write an image and go on from one.
 
-use super::{Fails, HELLO, Row, USAGE, check, words, words_of_row};
+use super::grids::{ADDITION, STUCK_INSIDE, SUM, bytes_of_lines};
+use super::{Fails, HELLO, Row, USAGE, check, command, words, words_of_row};
 use crate::{Status, codex};
 use std::alloc::Global;
 use std::process::Abort;
@@ -9,7 +10,7 @@ use um_word::bytes_of;
 use umix_base::{MemShelf, MemSink, MemSource, Memory};
 
 // the image of the first scroll after two cycles, byte for byte
-const IMAGE: &[u8] = &[
+pub const IMAGE: &[u8] = &[
     0x55, 0x4d, 0x49, 0x31, 0, 0, 0, 0x41, 0, 0, 0, 0, 0, 0, 0, 0, 0, 0, 0, 0, 0, 0, 0, 0, 0, 0, 0,
     0, 0, 0, 0, 0, 0, 0, 0, 0, 0, 0, 0, 2, 0, 0, 0, 0, 0, 0, 0, 2, 0, 0, 0, 0, 0, 0, 0, 0, 0, 0, 0,
     0, 0, 0, 0, 0, 0, 0, 0, 0, 0, 0, 0, 3, 0xd0, 0, 0, 0x41, 0xa0, 0, 0, 0, 0x70, 0, 0, 0,
@@ -291,6 +292,38 @@ fn million_cycles_cut(rt: HostRuntime) -> Result<(), Fail> {
         let cycles = k * 47_619;
         let number = format!(in rt.alloc(); "{cycles}")?;
         cut(&rt, &file, &bytes, number.as_str())?;
+    }
+    Ok(())
+}
+
+// the run of what was compiled is cut after so many cycles
+fn compiled_cut<R: Abort + AllocGlobal>(
+    rt: &R,
+    grid: &[&[&str]],
+    cycles: &str,
+    text: &str,
+) -> Result<(), Fail> {
+    let alloc = rt.alloc();
+    let grid = bytes_of_lines(alloc, grid)?;
+    let mut shelf = shelf_with(alloc, &grid)?;
+    command(rt, &mut shelf, &["compile", "f", "o"], "", "", Status::Done)?;
+    let mut out = MemSink::new(alloc, 1000, Vec::new(alloc))?;
+    let save = &["save", "o", cycles, "i"];
+    let none = input_of(alloc, b"", Fails::None)?;
+    then(rt, &mut shelf, save, none, &mut out, "", Status::Done)?;
+    let resume = &["resume", "i", "4611686018427387904"];
+    let none = input_of(alloc, b"", Fails::None)?;
+    then(rt, &mut shelf, resume, none, &mut out, "", Status::Done)?;
+    assert_eq!(rt; out.bytes(), text.as_bytes());
+    Ok(())
+}
+
+#[test]
+fn compiled_runs_cut(rt: HostRuntime) -> Result<(), Fail> {
+    let stuck = "stuck: bad box 2: no sum\n  in main box 1\n";
+    for cycles in ["0", "1", "77", "1000", "3333", "10000", "1000000"] {
+        compiled_cut(&rt, &[ADDITION], cycles, SUM)?;
+        compiled_cut(&rt, &[STUCK_INSIDE], cycles, stuck)?;
     }
     Ok(())
 }
