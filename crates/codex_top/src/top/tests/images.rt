@@ -157,43 +157,40 @@ fn shelf_with(alloc: Global, file: &[u8]) -> Result<MemShelf, Fail> {
     Ok(shelf)
 }
 
-/// A row of two commands: the cycles of the first, the cycles of the second and the call of its input that
-/// fails, what both wrote, and the line and the status of the second.
+/// A row of two commands: the call of the second's input that fails, what both wrote, and the line and the
+/// status of the second.
 #[derive(Drop)]
 struct SavedRow<'a> {
     file: &'a [u8],
-    cycles: (&'a str, &'a str),
     fails: Fails,
     out: &'a [u8],
     err: &'a str,
     status: Status,
 }
 
-// a scroll is saved and gone on with, both on the input `xy`
-fn saved_then_resumed<R: Abort + AllocGlobal>(rt: &R, row: &SavedRow<'_>) -> Result<(), Fail> {
+// a scroll is saved after so many cycles and gone on with for so many, both on the input `xy`
+fn saved_then_resumed<R: Abort + AllocGlobal>(
+    rt: &R,
+    row: &SavedRow<'_>,
+    before: &str,
+    after: &str,
+) -> Result<(), Fail> {
     let alloc = rt.alloc();
     let mut shelf = shelf_with(alloc, row.file)?;
     let mut out = MemSink::new(alloc, 1000, Vec::new(alloc))?;
-    let save = &["save", "f", row.cycles.0, "o"];
+    let save = &["save", "f", before, "o"];
     let whole = input_of(alloc, b"xy", Fails::None)?;
     then(rt, &mut shelf, save, whole, &mut out, "", Status::Done)?;
-    let resume = &["resume", "o", row.cycles.1];
+    let resume = &["resume", "o", after];
     let again = input_of(alloc, b"xy", row.fails)?;
     then(rt, &mut shelf, resume, again, &mut out, row.err, row.status)?;
     assert_eq!(rt; out.bytes(), row.out);
     Ok(())
 }
 
-fn saved_row<'a>(
-    file: &'a [u8],
-    cycles: (&'a str, &'a str),
-    out: &'a [u8],
-    err: &'a str,
-    status: Status,
-) -> SavedRow<'a> {
+fn saved_row<'a>(file: &'a [u8], out: &'a [u8], err: &'a str, status: Status) -> SavedRow<'a> {
     SavedRow {
         file,
-        cycles,
         fails: Fails::None,
         out,
         err,
@@ -201,30 +198,74 @@ fn saved_row<'a>(
     }
 }
 
+// the line of a division by 0
+const DIVIDED: &str = "fault DivideByZero at cycle 1\n";
+
 #[test]
 fn saved_and_resumed(rt: HostRuntime) -> Result<(), Fail> {
+    let echo = saved_row(ECHO, b"xy", "", Status::Done);
+    saved_then_resumed(&rt, &echo, "2", "3")?;
     let spent = "budget 0 cycles\n";
-    let rows = [
-        saved_row(ECHO, ("2", "3"), b"xy", "", Status::Done),
-        saved_row(ECHO, ("3", "0"), b"x", spent, Status::Budget),
-        saved_row(HELLO, ("0", "0"), b"", spent, Status::Budget),
-        saved_row(HELLO, ("9", "0"), b"A", "", Status::Done),
-        saved_row(
-            DIVIDES,
-            ("0", "9"),
-            b"",
-            "fault DivideByZero at cycle 1\n",
-            Status::MachineFault,
-        ),
-    ];
-    for row in &rows {
-        saved_then_resumed(&rt, row)?;
-    }
-    let mut row = saved_row(ECHO, ("2", "3"), b"x", "read fault\n", Status::ReadFault);
+    let echo = saved_row(ECHO, b"x", spent, Status::Budget);
+    saved_then_resumed(&rt, &echo, "3", "0")?;
+    let hello = saved_row(HELLO, b"", spent, Status::Budget);
+    saved_then_resumed(&rt, &hello, "0", "0")?;
+    let hello = saved_row(HELLO, b"A", "", Status::Done);
+    saved_then_resumed(&rt, &hello, "9", "0")?;
+    let divides = saved_row(DIVIDES, b"", DIVIDED, Status::MachineFault);
+    saved_then_resumed(&rt, &divides, "0", "9")
+}
+
+#[test]
+fn resumed_on_an_input_that_fails(rt: HostRuntime) -> Result<(), Fail> {
+    let mut row = saved_row(ECHO, b"x", "read fault\n", Status::ReadFault);
     row.fails = Fails::Input(0);
-    saved_then_resumed(&rt, &row)?;
+    saved_then_resumed(&rt, &row, "2", "3")?;
     row.fails = Fails::Input(1);
-    saved_then_resumed(&rt, &row)
+    saved_then_resumed(&rt, &row, "2", "3")
+}
+
+// sets r1 to 2; allocates r2, of r1 platters; sets r3 to 7; amends platter 0 of r2 to r3; abandons r2; abandons 0
+const ARRAYS: &[u32] = &[
+    0xd200_0002,
+    0x8000_0011,
+    0xd600_0007,
+    0x2000_00a3,
+    0x9000_0002,
+    0x9000_0000,
+];
+
+// allocates no platters, again and again
+const ALLOCATIONS: &[u32] = &[0x8000_0008, 0xc000_0000];
+
+// the scroll is saved after each number of cycles below this, and gone on with for so many
+fn cut_at_each<R: Abort + AllocGlobal>(
+    rt: &R,
+    row: &SavedRow<'_>,
+    below: usize,
+    after: &str,
+) -> Result<(), Fail> {
+    for cycles in 0..below {
+        let before = format!(in rt.alloc(); "{cycles}")?;
+        saved_then_resumed(rt, row, before.as_str(), after)?;
+    }
+    Ok(())
+}
+
+#[test]
+fn scrolls_cut_at_each_cycle(rt: HostRuntime) -> Result<(), Fail> {
+    let alloc = rt.alloc();
+    let hello = saved_row(HELLO, b"A", "", Status::Done);
+    cut_at_each(&rt, &hello, 5, "9")?;
+    let echo = saved_row(ECHO, b"xy", "", Status::Done);
+    cut_at_each(&rt, &echo, 7, "9")?;
+    let file = bytes_of(alloc, ARRAYS)?;
+    let line = "fault AbandonZero at cycle 6\n";
+    let arrays = saved_row(&file, b"", line, Status::MachineFault);
+    cut_at_each(&rt, &arrays, 6, "9")?;
+    let file = bytes_of(alloc, ALLOCATIONS)?;
+    let allocations = saved_row(&file, b"", "budget 9 cycles\n", Status::Budget);
+    cut_at_each(&rt, &allocations, 9, "9")
 }
 
 const ROUNDS: usize = 20_000;

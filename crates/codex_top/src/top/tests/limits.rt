@@ -1,6 +1,6 @@
 //! Files and runs on the limits of the commands, and past them.
 
-use super::{HELLO, check, command, run};
+use super::{Fails, HELLO, Row, check, command, run};
 use crate::Status;
 use std::process::Abort;
 use std::test::Fail;
@@ -46,6 +46,27 @@ fn scroll_of_too_many_arrays(rt: HostRuntime) -> Result<(), Fail> {
     let file = bytes_of(rt.alloc(), &[0x8000_0010, 0xc000_0000])?;
     let line = "limit ArraysFull at cycle 33554433: 16777217 over 16777216\n";
     check(&rt, &run(&file, b"", line, Status::Limit))
+}
+
+const MANY: &[&str] = &["run", "f", "3000000"];
+
+// a scroll that allocates an array and abandons it, a million times
+#[test]
+fn scroll_that_abandons_what_it_allocates(rt: HostRuntime) -> Result<(), Fail> {
+    let file = bytes_of(rt.alloc(), &[0x8000_000a, 0x9000_0001, 0xc000_0003])?;
+    check(
+        &rt,
+        &Row {
+            words: MANY,
+            file: &file,
+            input: b"",
+            fails: Fails::None,
+            out: b"",
+            err: "budget 3000000 cycles\n",
+            status: Status::Budget,
+            written: None,
+        },
+    )
 }
 
 // the first scroll, cut short at each byte
