@@ -1,4 +1,4 @@
-ghost use Rattle.std.specs.Prelude.{◌≡◌, ◌<◌, ◌≤◌, ◌==◌, ◌+◌, ◌-◌, ℕ, [], length, true, OnOk, slice_set};
+ghost use Rattle.std.specs.Prelude.{◌≡◌, ◌<◌, ◌≤◌, ◌==◌, ◌+◌, ◌-◌, ℕ, [], length, true, OnOk, IfSome, slice_set};
 ghost use Rattle.mark_list.specs.Marks.{count_before, is_marked};
 
 use crate::numbers::{
@@ -10,8 +10,8 @@ use std::marker::Model;
 use umix_base::Memory;
 
 /// A list of marks, each set or not, that grows at its end. `count` takes constant time; `before` and `place`
-/// look at no more than 16 numbers on each of five levels, and at one for 1,048,576 of the places; `put` writes
-/// one on each level.
+/// look at no more than 16 numbers on each of five levels, and at one for 1,048,576 of the places, and `place`
+/// at one mark where that alone is set and changed last; `put` writes one number on each level.
 #[derive(Drop)]
 pub struct Marks {
     marks: Vec<bool>,
@@ -27,6 +27,8 @@ pub struct Marks {
     rooms: Vec<usize>,
     /// How many are set in all.
     count: usize,
+    /// The place of the mark that changed last.
+    last: usize,
 }
 
 impl Model for Marks {
@@ -54,6 +56,7 @@ impl Marks {
             shelves: Vec::new(alloc),
             rooms: Vec::new(alloc),
             count: 0,
+            last: 0,
         }
     }
 
@@ -131,8 +134,35 @@ impl Marks {
         }
     }
 
-    /// The place of the mark that comes after `k` that are set: the k-th, counted from 0.
+    /// The place of the mark that comes after `k` that are set: the k-th, counted from 0. Constant time where one
+    /// mark alone is set, and none has changed since it was.
     pub fn place(&self, k: usize) -> usize
+        requires { k < count_before self.now (length self.now) }
+        ensures set { is_marked self.now result ≡ true }
+        ensures there { result < length self.now }
+        ensures is { count_before self.now result ≡ k }
+    {
+        match self.only() {
+            Some(place) => place,
+            None => self.search(k),
+        }
+    }
+
+    /// The place of the mark that changed last, where it is set and no other is.
+    fn only(&self) -> Option<usize>
+        ensures one { IfSome result (λ _. count_before self.now (length self.now) ≡ 1) }
+        ensures set { IfSome result (λ place. is_marked self.now place ≡ true) }
+        ensures there { IfSome result (λ place. place < length self.now) }
+    {
+        if self.count == 1 && self.last < self.marks.len() && self.marks[self.last] {
+            Some(self.last)
+        } else {
+            None
+        }
+    }
+
+    /// The k-th mark that is set, by the sums.
+    fn search(&self, k: usize) -> usize
         requires { k < count_before self.now (length self.now) }
         ensures set { is_marked self.now result ≡ true }
         ensures there { result < length self.now }
@@ -166,5 +196,6 @@ impl Marks {
         count_mark(&mut self.rooms, room, set);
         self.count = next_count(self.count, set);
         self.marks[place] = set;
+        self.last = place;
     }
 }
