@@ -1,5 +1,6 @@
 -- What the program does: each command in a few lines, and `codex` as a whole.
-use Rattle.std.specs.Prelude.{◌≡◌, ℕ, ◌^◌, ◌<◌, ◌≤◌, List, [], ◌∷◌, length, slice_index, codes, decimal, Result, Ok, Err}
+use Rattle.std.specs.Prelude.{◌≡◌, ℕ, ◌^◌, ◌<◌, ◌≤◌, List, [], ◌∷◌, length, slice_index, codes}
+use Rattle.std.specs.Prelude.{decimal, Result, Ok, Err}
 use Rattle.std.specs.List.{concat}
 use Rattle.um_asm.specs.Listing.{listing}
 use Rattle.um_word.specs.Scroll.{scroll, most_scroll_bytes}
@@ -10,10 +11,12 @@ use Rattle.lower_link.specs.Follows.{Follows}
 use Rattle.codex_top.specs.declared.status.Status.{Status}
 use Rattle.codex_top.specs.declared.line.Line.{Line}
 use Rattle.codex_top.specs.declared.line.Line.TheVariants.{Usage, NoMemory}
-use Rattle.codex_top.specs.Words.{Job, checks, evaluates, traces, compiles, runs, assembles, lists, debugs, selftests, draws, types, saves, resumes, Asks}
+use Rattle.codex_top.specs.Words.{Job, checks, evaluates, traces, compiles, runs, assembles, lists}
+use Rattle.codex_top.specs.Words.{debugs, selftests, draws, types, saves, resumes, Asks}
 use Rattle.codex_top.specs.Outside.{Shelved, Stream, Outside, IsOnlyRead, IsOnlyWritten}
 use Rattle.codex_top.specs.Endings.{End, IsTold}
-use Rattle.codex_top.specs.Reading.{ProgramRead, ScrollRead, TextRead, InputRead, SheetRead, ImageRead}
+use Rattle.codex_top.specs.Reading.{ProgramRead, ScrollRead, TextRead, InputRead, SheetRead}
+use Rattle.codex_top.specs.Reading.{ImageRead}
 use Rattle.codex_top.specs.Sending.{TextSent, ScrollWritten}
 use Rattle.codex_top.specs.Evaluating.{OutcomeEnds}
 use Rattle.codex_top.specs.TraceCommand.{EventsTold}

@@ -5,7 +5,8 @@ use Rattle.um_word.specs.State.{State, start_of}
 use Rattle.um_word.specs.Rule.{Identifiers, none_made}
 use Rattle.um_machine.specs.Outside.{MayHold}
 use Rattle.um_debug.specs.declared.debugger.DebugEnd.{DebugEnd}
-use Rattle.um_debug.specs.declared.debugger.DebugEnd.TheVariants.{Quit, EndOfCommands, Turns, ReadFault, WriteFault, Memory}
+use Rattle.um_debug.specs.declared.debugger.DebugEnd.TheVariants.{Quit, EndOfCommands, Turns}
+use Rattle.um_debug.specs.declared.debugger.DebugEnd.TheVariants.{ReadFault, WriteFault, Memory}
 use Rattle.um_debug.specs.Debugging.{Debugs}
 use Rattle.um_debug.specs.Session.{fresh}
 use Rattle.codex_top.specs.declared.line.Counted.TheVariants.{Lines}

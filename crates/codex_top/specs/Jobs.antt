@@ -2,7 +2,9 @@
 use Rattle.std.specs.Prelude.{ℕ, List, Option, Some, None}
 use Rattle.fire_eval.specs.Evaluation.{choice_of}
 use Rattle.codex_top.specs.declared.words.Job.{Job}
-use Rattle.codex_top.specs.declared.words.Job.TheVariants.{Check, Eval, Trace, Compile, Run, Asm, Dis, Debug, Selftest, Draw, Types, Save, Resume}
+use Rattle.codex_top.specs.declared.words.Job.TheVariants.{Check, Eval, Trace, Compile, Run, Asm}
+use Rattle.codex_top.specs.declared.words.Job.TheVariants.{Dis, Debug, Selftest, Draw, Types, Save}
+use Rattle.codex_top.specs.declared.words.Job.TheVariants.{Resume}
 use Rattle.codex_top.specs.Words as plain
 
 abbrev pub work_of : Job → plain.Job

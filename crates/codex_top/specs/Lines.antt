@@ -5,13 +5,15 @@ use Rattle.um_machine.specs.Stops.{stop_name}
 use Rattle.codex_top.specs.declared.status.Status.{Status}
 use Rattle.codex_top.specs.declared.status.Status.TheVariants as status
 use Rattle.codex_top.specs.declared.refusal.After.{After}
-use Rattle.codex_top.specs.declared.refusal.After.TheVariants.{Nothing, Number, At, InModule, InBox, InExit}
+use Rattle.codex_top.specs.declared.refusal.After.TheVariants.{Nothing, Number, At, InModule, InBox}
+use Rattle.codex_top.specs.declared.refusal.After.TheVariants.{InExit}
 use Rattle.codex_top.specs.declared.line.Limit.{Limit}
 use Rattle.codex_top.specs.declared.line.Limit.TheVariants.{ArraysFull, WordsFull}
 use Rattle.codex_top.specs.declared.line.Counted.{Counted}
 use Rattle.codex_top.specs.declared.line.Counted.TheVariants.{Cycles, Events, Lines}
 use Rattle.codex_top.specs.declared.line.Line.{Line}
-use Rattle.codex_top.specs.declared.line.Line.TheVariants.{Usage, Refused, Fault, Limited, Budget, ReadFault, WriteFault, NoMemory}
+use Rattle.codex_top.specs.declared.line.Line.TheVariants.{Usage, Refused, Fault, Limited, Budget}
+use Rattle.codex_top.specs.declared.line.Line.TheVariants.{ReadFault, WriteFault, NoMemory}
 use Rattle.codex_top.specs.Limits.{limits}
 use Rattle.codex_top.specs.RefusalView.{RefusalView}
 

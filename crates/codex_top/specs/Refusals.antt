@@ -16,7 +16,8 @@ use Rattle.type_sheet.specs.declared.fault.At.TheVariants.{Module, Bx, Exit}
 use Rattle.type_sheet.specs.declared.fault.SheetFault.{SheetFault}
 use Rattle.type_sheet.specs.declared.fault.SheetFault.TheVariants as sheets
 use Rattle.codex_top.specs.declared.refusal.After.{After}
-use Rattle.codex_top.specs.declared.refusal.After.TheVariants.{Nothing, Number, At, InModule, InBox, InExit}
+use Rattle.codex_top.specs.declared.refusal.After.TheVariants.{Nothing, Number, At, InModule, InBox}
+use Rattle.codex_top.specs.declared.refusal.After.TheVariants.{InExit}
 use Rattle.codex_top.specs.declared.line.Line.{Line}
 use Rattle.codex_top.specs.declared.line.Line.TheVariants.{Refused, NoMemory}
 

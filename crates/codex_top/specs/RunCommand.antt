@@ -3,7 +3,8 @@ use Rattle.std.specs.Prelude.{◌≡◌, ℕ, ◌+◌, List, Ok, Err}
 use Rattle.umix_base.specs.Causes.{Rose}
 use Rattle.um_word.specs.State.{State, start_of}
 use Rattle.um_machine.specs.declared.stop.Stop.{Stop}
-use Rattle.um_machine.specs.declared.stop.Stop.TheVariants.{Halted, Budget, ArraysFull, WordsFull, ReadFault, WriteFault, Memory}
+use Rattle.um_machine.specs.declared.stop.Stop.TheVariants.{Halted, Budget, ArraysFull, WordsFull}
+use Rattle.um_machine.specs.declared.stop.Stop.TheVariants.{ReadFault, WriteFault, Memory}
 use Rattle.um_machine.specs.MachineView.{MachineView, machine_of}
 use Rattle.um_machine.specs.Outside.{MayRest}
 use Rattle.um_machine.specs.Runs.{RunEnds}

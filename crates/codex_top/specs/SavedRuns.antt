@@ -7,7 +7,8 @@ use Rattle.um_machine.specs.MachineView.{MachineView, machine_of, state_of}
 use Rattle.um_machine.specs.Runs.{RunEnds}
 use Rattle.um_image.specs.Laws.{IsOwnEnd}
 use Rattle.codex_top.specs.declared.status.Status.{Status}
-use Rattle.codex_top.specs.declared.status.Status.TheVariants.{Done, Refused, ReadFault, WriteFault, Memory}
+use Rattle.codex_top.specs.declared.status.Status.TheVariants.{Done, Refused, ReadFault, WriteFault}
+use Rattle.codex_top.specs.declared.status.Status.TheVariants.{Memory}
 use Rattle.codex_top.specs.Calls.{Call, EachCall, Has, Wrote}
 use Rattle.codex_top.specs.Completeness.{HasWithInput}
 use Rattle.codex_top.specs.Endings.{IsTold}

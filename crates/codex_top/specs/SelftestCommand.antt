@@ -27,7 +27,8 @@ unfoldable pub run_alone : (words : List ℕ) → (cycles : ℕ) → Standing Id
 run_alone words cycles = ruled limits cycles none_made (start_of words [])
 
 -- What is found from a number: the program of its grid, which gives its value, with its meaning; words that were
--- compiled from the program, which realise it and follow it within bounds; and that their run halts, with the text of the value written.
+-- compiled from the program, which realise it and follow it within bounds; and that their run
+-- halts, with the text of the value written.
 pub record Found (number : ℕ) : Type 0 where
   pub program : Program
   pub meaning : Meaning

@@ -1,7 +1,9 @@
 -- The numbers with which the program ends.
 use Rattle.std.specs.Prelude.{ℕ}
 use Rattle.codex_top.specs.declared.status.Status.{Status}
-use Rattle.codex_top.specs.declared.status.Status.TheVariants.{Done, Refused, Usage, Stuck, MachineFault, Limit, Budget, ReadFault, WriteFault, Memory}
+use Rattle.codex_top.specs.declared.status.Status.TheVariants.{Done, Refused, Usage, Stuck}
+use Rattle.codex_top.specs.declared.status.Status.TheVariants.{MachineFault, Limit, Budget}
+use Rattle.codex_top.specs.declared.status.Status.TheVariants.{ReadFault, WriteFault, Memory}
 
 -- the number of a status
 abbrev pub number_of : Status → ℕ

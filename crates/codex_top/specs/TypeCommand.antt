@@ -1,5 +1,6 @@
 -- What `type` tells of a program and a sheet of types.
-use Rattle.std.specs.Prelude.{◌≡◌, ℕ, Bool, true, false, List, [], ◌∷◌, length, count_by, codes, decimal, Ok, Err}
+use Rattle.std.specs.Prelude.{◌≡◌, ℕ, Bool, true, false, List, [], ◌∷◌, length, count_by, codes}
+use Rattle.std.specs.Prelude.{decimal, Ok, Err}
 use Rattle.std.specs.List.{concat}
 use Rattle.two_d.specs.Programs.{Program}
 use Rattle.type_sheet.specs.declared.fault.SheetFault.{SheetFault}

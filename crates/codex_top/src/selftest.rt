@@ -1,6 +1,7 @@
 //! The command `selftest`: makes a grid from a number, and does the whole work on it.
 
-ghost use Rattle.std.specs.Prelude.{◌≡◌, ◌≤◌, ◌+◌, ◌++◌, IfOk, codes, decimal, length, string_bytes};
+ghost use Rattle.std.specs.Prelude.{◌≡◌, ◌≤◌, ◌+◌, ◌++◌, IfOk, codes, decimal, length};
+ghost use Rattle.std.specs.Prelude.{string_bytes};
 ghost use Rattle.um_word.specs.Loads.{state_in};
 ghost use Rattle.two_d.specs.Meaning.{Meaning};
 ghost use Rattle.two_d.specs.Program.{program_of};

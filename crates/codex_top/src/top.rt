@@ -1,7 +1,6 @@
 //! The program's one call.
 
 ghost use Rattle.std.specs.Prelude.{◌≡◌, map, string_bytes};
-ghost use Rattle.umix_base.specs.Causes.{KeepsTelling};
 ghost use Rattle.codex_top.specs.Outside.{outside, told, IsCounted};
 ghost use Rattle.codex_top.specs.Words.{IsAllowed};
 ghost use Rattle.codex_top.specs.Jobs.{work_of};

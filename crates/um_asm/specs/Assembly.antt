@@ -1,5 +1,6 @@
 -- The words of an assembly text, or its first fault.
-use Rattle.std.specs.Prelude.{ℕ, ◌-◌, ◌^◌, nat_le, nat_lt, Bool, false, if◌then◌else◌, List, [], ◌∷◌, ◌++◌, length, map, Option, Some, None, Result, Ok, Err}
+use Rattle.std.specs.Prelude.{ℕ, ◌-◌, ◌^◌, nat_le, nat_lt, Bool, false, if◌then◌else◌, List, []}
+use Rattle.std.specs.Prelude.{◌∷◌, ◌++◌, length, map, Option, Some, None, Result, Ok, Err}
 use Rattle.std.specs.Option.{option_map, option_or}
 use Rattle.std.specs.Str.Lines.{lines}
 use Rattle.std.specs.Str.Parse.{digits_value}
@@ -7,7 +8,8 @@ use Rattle.um_word.specs.declared.op.Op.TheVariants as op
 use Rattle.um_word.specs.Operators.{encode_op}
 use Rattle.um_word.specs.Scroll.{most_scroll_words}
 use Rattle.um_asm.specs.declared.fault.AsmFault.{AsmFault}
-use Rattle.um_asm.specs.declared.fault.AsmFault.TheVariants.{BadLine, SameLabel, NoLabel, ValueTooLarge, TooLong}
+use Rattle.um_asm.specs.declared.fault.AsmFault.TheVariants.{BadLine, SameLabel, NoLabel}
+use Rattle.um_asm.specs.declared.fault.AsmFault.TheVariants.{ValueTooLarge, TooLong}
 use Rattle.um_asm.specs.declared.line.Value.{Value}
 use Rattle.um_asm.specs.declared.line.Value.TheVariants.{Decimal, Hexadecimal, Label, Length}
 use Rattle.um_asm.specs.declared.line.Statement.{Statement}
@@ -47,11 +49,13 @@ up_to greatest line (Some number) = if nat_le number greatest then Ok number els
 
 -- the words that a run of digits writes, eight digits each
 abbrev pub hex_words : List ℕ → List ℕ
-hex_words (a ∷ b ∷ c ∷ d ∷ e ∷ f ∷ g ∷ h ∷ digits) = digits_value 16 (a ∷ b ∷ c ∷ d ∷ e ∷ f ∷ g ∷ h ∷ []) ∷ hex_words digits
+hex_words (a ∷ b ∷ c ∷ d ∷ e ∷ f ∷ g ∷ h ∷ digits) = digits_value 16 (a ∷ b ∷ c ∷ d ∷ e ∷ f ∷ g ∷ h
+    ∷ []) ∷ hex_words digits
 hex_words _ = []
 
 -- the words of a statement on a line, or its fault
-abbrev pub statement_words : NameMeaning → (line : ℕ) → Option (Block (List ℕ)) → Statement (List ℕ) → Result (List ℕ) AsmFault
+abbrev pub statement_words : NameMeaning → (line : ℕ) → Option (Block (List ℕ)) →
+    Statement (List ℕ) → Result (List ℕ) AsmFault
 statement_words meaning line block (Operator operator) = Ok (encode_op operator ∷ [])
 statement_words meaning line block (SetTo a value) =
     up_to (2 ^ 25 - 1) line (value_number meaning block value) >>= λ number. Ok (encode_op (op.Set a number) ∷ [])
@@ -66,7 +70,8 @@ is_earlier line None = false
 
 -- whether the line's label or block name was defined on an earlier line of its scope
 abbrev pub is_defined_before : NameMeaning → (number : ℕ) → Option (Block (List ℕ)) → Line (List ℕ) → Bool
-is_defined_before meaning number block (Code (Some label) statement) = is_earlier number (meaning (scope_of block) label)
+is_defined_before meaning number block (Code (Some label) statement) = is_earlier number
+    (meaning (scope_of block) label)
 is_defined_before meaning number block (Array name) = is_earlier number (meaning None name)
 is_defined_before meaning number block _ = false
 

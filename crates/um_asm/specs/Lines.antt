@@ -1,5 +1,6 @@
 -- What a line says.
-use Rattle.std.specs.Prelude.{ℕ, ◌/◌, ◌%◌, ◌==◌, nat_le, Bool, ◌&&◌, if◌then◌else◌, List, [], ◌∷◌, length, map, codes, Option, Some, None}
+use Rattle.std.specs.Prelude.{ℕ, ◌/◌, ◌%◌, ◌==◌, nat_le, Bool, ◌&&◌, if◌then◌else◌, List, [], ◌∷◌}
+use Rattle.std.specs.Prelude.{length, map, codes, Option, Some, None}
 use Rattle.std.specs.List.{list_all, slice_split}
 use Rattle.std.specs.Option.{option_map}
 use Rattle.std.specs.Str.{bytes_eq}
@@ -10,8 +11,11 @@ use Rattle.um_asm.specs.declared.line.Statement.TheVariants.{Operator, SetTo, Wo
 use Rattle.um_asm.specs.declared.line.Line.{Line}
 use Rattle.um_asm.specs.declared.line.Line.TheVariants.{Code, Array, End}
 use Rattle.um_asm.specs.declared.mnemonic.Mnemonic.{Mnemonic}
-use Rattle.um_asm.specs.declared.mnemonic.Mnemonic.TheVariants.{Cmov, Index, Amend, Add, Mul, Div, Nand, Halt, Alloc, Abandon, Out, In, Load, Set}
-use Rattle.um_asm.specs.Tokens.{before, behind_byte, trimmed_start, trimmed, is_printable, is_label, is_numeral, register_at, value_written}
+use Rattle.um_asm.specs.declared.mnemonic.Mnemonic.TheVariants.{Cmov, Index, Amend, Add, Mul, Div}
+use Rattle.um_asm.specs.declared.mnemonic.Mnemonic.TheVariants.{Nand, Halt, Alloc, Abandon, Out, In}
+use Rattle.um_asm.specs.declared.mnemonic.Mnemonic.TheVariants.{Load, Set}
+use Rattle.um_asm.specs.Tokens.{before, behind_byte, trimmed_start, trimmed, is_printable, is_label}
+use Rattle.um_asm.specs.Tokens.{is_numeral, register_at, value_written}
 use Rattle.um_asm.specs.Mnemonics.{mnemonic_at}
 
 -- the ? of the logic: the second step, if the first gave something
@@ -155,11 +159,13 @@ unlabelled_at text =
 -- a line whose comment is gone; only a label has a colon
 abbrev pub content_at : List ℕ → Option (List ℕ) → Option (Line (List ℕ))
 content_at text None = unlabelled_at (trimmed text)
-content_at text (Some rest) = if is_label (trimmed_start (before 58 text)) then labelled_at (Some (trimmed_start (before 58 text))) (trimmed rest) else None
+content_at text (Some rest) = if is_label (trimmed_start (before 58 text))
+    then labelled_at (Some (trimmed_start (before 58 text))) (trimmed rest) else None
 
 -- what a line says, if it is of the forms of a line; a comment goes from `;` to the line's end
 abbrev pub parsed_line : List ℕ → Option (Line (List ℕ))
-parsed_line line = if list_all is_printable line then content_at (before 59 line) (behind_byte 58 (before 59 line)) else None
+parsed_line line = if list_all is_printable line
+    then content_at (before 59 line) (behind_byte 58 (before 59 line)) else None
 
 -- the words of `.hex`
 abbrev pub hex_length : List ℕ → ℕ

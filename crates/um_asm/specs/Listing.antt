@@ -1,5 +1,6 @@
 -- The text that shows words.
-use Rattle.std.specs.Prelude.{ℕ, ◌+◌, ◌==◌, if◌then◌else◌, List, [], ◌∷◌, ◌++◌, codes, decimal, Option, Some, None}
+use Rattle.std.specs.Prelude.{ℕ, ◌+◌, ◌==◌, if◌then◌else◌, List, [], ◌∷◌, ◌++◌, codes, decimal}
+use Rattle.std.specs.Prelude.{Option, Some, None}
 use Rattle.std.specs.Int.{w32, to_be_bytes}
 use Rattle.std.specs.List.{flat_map}
 use Rattle.hex.specs.Hex.{encode_lower}
@@ -7,7 +8,9 @@ use Rattle.um_word.specs.declared.op.Op.{Op}
 use Rattle.um_word.specs.declared.op.Op.TheVariants as op
 use Rattle.um_word.specs.Operators.{decode_word, encode_op}
 use Rattle.um_asm.specs.declared.mnemonic.Mnemonic.{Mnemonic}
-use Rattle.um_asm.specs.declared.mnemonic.Mnemonic.TheVariants.{Cmov, Index, Amend, Add, Mul, Div, Nand, Halt, Alloc, Abandon, Out, In, Load, Set}
+use Rattle.um_asm.specs.declared.mnemonic.Mnemonic.TheVariants.{Cmov, Index, Amend, Add, Mul, Div}
+use Rattle.um_asm.specs.declared.mnemonic.Mnemonic.TheVariants.{Nand, Halt, Alloc, Abandon, Out, In}
+use Rattle.um_asm.specs.declared.mnemonic.Mnemonic.TheVariants.{Load, Set}
 use Rattle.um_asm.specs.Mnemonics.{mnemonic_text}
 
 -- `r0` to `r7`

@@ -3,7 +3,9 @@ use Rattle.std.specs.Prelude.{ℕ, List, [], ◌∷◌, codes, Option}
 use Rattle.std.specs.List.{find}
 use Rattle.std.specs.Str.{bytes_eq}
 use Rattle.um_asm.specs.declared.mnemonic.Mnemonic.{Mnemonic}
-use Rattle.um_asm.specs.declared.mnemonic.Mnemonic.TheVariants.{Cmov, Index, Amend, Add, Mul, Div, Nand, Halt, Alloc, Abandon, Out, In, Load, Set}
+use Rattle.um_asm.specs.declared.mnemonic.Mnemonic.TheVariants.{Cmov, Index, Amend, Add, Mul, Div}
+use Rattle.um_asm.specs.declared.mnemonic.Mnemonic.TheVariants.{Nand, Halt, Alloc, Abandon, Out, In}
+use Rattle.um_asm.specs.declared.mnemonic.Mnemonic.TheVariants.{Load, Set}
 
 -- how a mnemonic is written
 abbrev pub mnemonic_text : Mnemonic → List ℕ

@@ -1,5 +1,6 @@
 -- Where the lines of a text stand, and what its labels stand for.
-use Rattle.std.specs.Prelude.{ℕ, ◌+◌, ◌-◌, nat_eq, Bool, true, false, ◌&&◌, if◌then◌else◌, List, [], ◌∷◌, Option, Some, None}
+use Rattle.std.specs.Prelude.{ℕ, ◌+◌, ◌-◌, nat_eq, Bool, true, false, ◌&&◌, if◌then◌else◌, List, []}
+use Rattle.std.specs.Prelude.{◌∷◌, Option, Some, None}
 use Rattle.std.specs.List.{list_any, find, flat_map}
 use Rattle.std.specs.Option.{option_map, option_eq}
 use Rattle.std.specs.Str.{bytes_eq}
@@ -53,7 +54,13 @@ block_after number place block line = block
 abbrev pub standing : (number : ℕ) → Option (Block (List ℕ)) → (place : ℕ) → List Said → List PlacedLine
 standing number block place [] = []
 standing number block place (line ∷ lines) =
-    record { number = number; block = block; place = place; line = in_block block line lines; until_end = words_until_end lines }
+    record {
+      number = number;
+      block = block;
+      place = place;
+      line = in_block block line lines;
+      until_end = words_until_end lines;
+    }
     ∷ standing (number + 1) (block_after number place block line) (place + size_of line) lines
 
 -- the lines of a text
@@ -78,9 +85,25 @@ pub record Named : Type 0 where
 -- a label stands for the place of the next word, and a block's name for the place of its first word
 abbrev pub defined_by : PlacedLine → Said → List Named
 defined_by s (Some (Code (Some label) statement)) =
-    record { scope = scope_of s.block; name = label; definition = record { line = s.number; place = place_in_block s.block s.place; length = None } } ∷ []
+    record {
+      scope = scope_of s.block;
+      name = label;
+      definition = record {
+        line = s.number;
+        place = place_in_block s.block s.place;
+        length = None;
+      };
+    } ∷ []
 defined_by s (Some (Array name)) =
-    record { scope = None; name = name; definition = record { line = s.number; place = s.place; length = Some s.until_end } } ∷ []
+    record {
+      scope = None;
+      name = name;
+      definition = record {
+        line = s.number;
+        place = s.place;
+        length = Some s.until_end;
+      };
+    } ∷ []
 defined_by s _ = []
 
 abbrev pub defined_at : PlacedLine → List Named

@@ -1,5 +1,7 @@
 -- The tokens of a line: how they are cut, and which are labels, registers and values.
-use Rattle.std.specs.Prelude.{ℕ, ◌-◌, ◌+◌, ◌==◌, nat_le, nat_lt, Bool, false, ◌&&◌, ◌||◌, if◌then◌else◌, List, [], ◌∷◌, length, drop, reverse, codes, Option, Some, None}
+use Rattle.std.specs.Prelude.{ℕ, ◌-◌, ◌+◌, ◌==◌, nat_le, nat_lt, Bool, false, ◌&&◌, ◌||◌}
+use Rattle.std.specs.Prelude.{if◌then◌else◌, List, [], ◌∷◌, length, drop, reverse, codes, Option}
+use Rattle.std.specs.Prelude.{Some, None}
 use Rattle.std.specs.List.{list_all, before_first, position}
 use Rattle.std.specs.Option.{option_map}
 use Rattle.std.specs.Char.{is_digit, is_ascii_alphabetic, is_ascii_alphanumeric}
@@ -50,7 +52,8 @@ is_numeral radix token = nat_lt 0 (length token) && list_all (λ b. is_digit b r
 
 -- the register that a token names
 abbrev pub register_at : List ℕ → Option ℕ
-register_at (letter ∷ digit ∷ []) = if (letter == 114) && (nat_le 48 digit && nat_le digit 55) then Some (digit - 48) else None
+register_at (letter ∷ digit ∷ []) = if (letter == 114) && (nat_le 48 digit && nat_le digit 55)
+    then Some (digit - 48) else None
 register_at _ = None
 
 -- what stands behind `0x`, if the token begins so

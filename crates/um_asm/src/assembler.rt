@@ -1,11 +1,16 @@
 //! Texts to words.
 
-ghost use Rattle.std.specs.Prelude.{◌≡◌, ◌++◌, ◌⊎◌, Some, None, Ok, Err, IsTrue, IfOk, IfErr, IfSome, OnOk, MatchResult};
+ghost use Rattle.std.specs.Prelude.{◌≡◌, ◌++◌, ◌⊎◌, Some, None, Ok, Err, IsTrue, IfOk, IfErr};
+ghost use Rattle.std.specs.Prelude.{IfSome, OnOk, MatchResult};
 ghost use Rattle.um_asm.specs.declared.fault.AsmFault.TheVariants as fault;
 ghost use Rattle.um_asm.specs.Lines.{are_hex_words};
 ghost use Rattle.um_asm.specs.Scopes.{all_standing};
-ghost use Rattle.um_asm.specs.Assembly.{assembled, hex_words, is_defined_before, label_in, line_words, lines_words, said_words, value_number, said_by, statement_words, up_to};
-ghost use Rattle.um_asm.specs.inner.Parts.{block_read_at, line_read, said_in, said_read, statement_read, unended_from, value_read, HasRight, IsRight, Pushes};
+ghost use Rattle.um_asm.specs.Assembly.{assembled, hex_words, is_defined_before, label_in};
+ghost use Rattle.um_asm.specs.Assembly.{line_words, lines_words, said_words, value_number, said_by};
+ghost use Rattle.um_asm.specs.Assembly.{statement_words, up_to};
+ghost use Rattle.um_asm.specs.inner.Parts.{block_read_at, line_read, said_in, said_read};
+ghost use Rattle.um_asm.specs.inner.Parts.{statement_read, unended_from, value_read, HasRight};
+ghost use Rattle.um_asm.specs.inner.Parts.{IsRight, Pushes};
 ghost use Rattle.um_asm.specs.inner.Definitions.{meaning_in};
 
 use crate::fault::AsmFault;

@@ -1,7 +1,8 @@
 //! Words to texts.
 
 ghost use Rattle.std.specs.Prelude.{◌≡◌, ◌<◌, ◌≤◌, ◌^◌, ◌++◌, All, length, Ok, IfOk, OnOk};
-ghost use Rattle.um_asm.specs.Listing.{register_text, one, two, three, statement_text, operator_text, hex_text, word_text, listing};
+ghost use Rattle.um_asm.specs.Listing.{register_text, one, two, three, statement_text};
+ghost use Rattle.um_asm.specs.Listing.{operator_text, hex_text, word_text, listing};
 ghost use Rattle.um_asm.specs.Mnemonics.{mnemonic_text};
 ghost use Rattle.um_word.specs.Scroll.{most_scroll_words};
 ghost use Rattle.um_asm.specs.Assembly.{assembled};

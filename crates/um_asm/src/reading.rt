@@ -3,9 +3,13 @@
 ghost use Rattle.std.specs.Prelude.{◌≡◌, ◌<◌, ◌∷◌, Some, IfSome};
 ghost use Rattle.std.specs.List.{list_all};
 ghost use Rattle.std.specs.Option.{option_map, option_copied};
-ghost use Rattle.um_asm.specs.inner.Parts.{line_read, statement_read, pair_read, triple_read, HasRight, IsRight};
+ghost use Rattle.um_asm.specs.inner.Parts.{line_read, statement_read, pair_read, triple_read};
+ghost use Rattle.um_asm.specs.inner.Parts.{HasRight, IsRight};
 ghost use Rattle.um_asm.specs.Tokens.{behind_byte, is_printable};
-ghost use Rattle.um_asm.specs.Lines.{operands_in, one_operand, two_operands, three_operands, one_register, two_registers, three_registers, operator_at, word_at, are_hex_words, hex_at, statement_of, statement_at, labelled_at, array_line, end_at, unlabelled_at, content_at, parsed_line};
+ghost use Rattle.um_asm.specs.Lines.{operands_in, one_operand, two_operands, three_operands};
+ghost use Rattle.um_asm.specs.Lines.{one_register, two_registers, three_registers, operator_at};
+ghost use Rattle.um_asm.specs.Lines.{word_at, hex_at, statement_at, labelled_at, array_line};
+ghost use Rattle.um_asm.specs.Lines.{end_at, unlabelled_at, content_at, parsed_line};
 
 use crate::line::{Line, Statement};
 use crate::mnemonic::Mnemonic;

@@ -5,7 +5,9 @@ ghost use Rattle.std.specs.Char.{is_digit};
 ghost use Rattle.std.specs.List.{list_all, position};
 ghost use Rattle.std.specs.Option.{option_map, option_copied};
 ghost use Rattle.um_asm.specs.inner.Parts.{value_read};
-ghost use Rattle.um_asm.specs.Tokens.{before, behind_byte, trimmed, trimmed_end, trimmed_start, is_label_byte, is_label, is_numeral, register_at, behind_prefix, is_len, value_written};
+ghost use Rattle.um_asm.specs.Tokens.{before, behind_byte, trimmed, trimmed_end, trimmed_start};
+ghost use Rattle.um_asm.specs.Tokens.{is_label_byte, is_label, is_numeral, register_at};
+ghost use Rattle.um_asm.specs.Tokens.{behind_prefix, is_len, value_written};
 
 use crate::line::Value;
 

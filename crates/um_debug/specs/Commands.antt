@@ -1,7 +1,8 @@
 -- The lines that are commands.
 use Rattle.std.specs.Prelude.{ℕ, ◌+◌, ◌^◌, ◌<◌, ◌≤◌, List, ◌++◌, codes, decimal}
 use Rattle.um_debug.specs.declared.command.Command.{Command}
-use Rattle.um_debug.specs.declared.command.Command.TheVariants.{Step, Go, Breakpoint, Watch, Registers, Words, Finger, Quit}
+use Rattle.um_debug.specs.declared.command.Command.TheVariants.{Step, Go, Breakpoint, Watch}
+use Rattle.um_debug.specs.declared.command.Command.TheVariants.{Registers, Words, Finger, Quit}
 
 -- the most cycles that a session may have made
 abbrev pub most_cycles : ℕ

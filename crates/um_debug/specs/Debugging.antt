@@ -13,7 +13,8 @@ use Rattle.um_machine.specs.Outside.{MayHold}
 use Rattle.um_debug.specs.declared.command.Command.{Command}
 use Rattle.um_debug.specs.declared.command.Command.TheVariants.{Step, Go}
 use Rattle.um_debug.specs.declared.debugger.DebugEnd.{DebugEnd}
-use Rattle.um_debug.specs.declared.debugger.DebugEnd.TheVariants.{Quit, EndOfCommands, Turns, ReadFault, WriteFault, Memory}
+use Rattle.um_debug.specs.declared.debugger.DebugEnd.TheVariants.{Quit, EndOfCommands, Turns}
+use Rattle.um_debug.specs.declared.debugger.DebugEnd.TheVariants.{ReadFault, WriteFault, Memory}
 use Rattle.um_debug.specs.CommandLines.{IsLine, Passes, HasNoLineFeed, most_line_bytes, quit_line}
 use Rattle.um_debug.specs.Commands.{IsCommandLine, most_cycles}
 use Rattle.um_debug.specs.Course.{Points, no_points, IsCutOff}
@@ -38,7 +39,8 @@ EndsBy input_failed output_failed stop.Memory end = end ≡ Memory
 EndsBy input_failed output_failed _ end = ⊥
 
 -- One of the cycles that a line asks for failed.
-pub record FailsAtCycle (L : Limits) (line : List ℕ) (s : Session) (why : Stop) (j : Identifiers) (t : State) : Type 0 where
+pub record FailsAtCycle (L : Limits) (line : List ℕ) (s : Session) (why : Stop) (j : Identifiers)
+    (t : State) : Type 0 where
   pub command : Command
   pub is_command : IsCommandLine line command
   pub allowed : s.state.cycles + cycles_of command ≤ most_cycles
@@ -53,22 +55,27 @@ pub record FailsAtReply (L : Limits) (line : List ℕ) (s : Session) (k : ℕ) (
   pub state_is : t ≡ record answer.session.state { out = answer.session.state.out ++ take k (sent answer.reply) }
 
 -- a line that couldn't be ended, since the scroll's input failed, or the output, or for want of memory
-pub data Fails (L : Limits) (line : List ℕ) (s : Session) (input_failed output_failed : Type 0) (j : Identifiers) (t : State) :
+pub data Fails (L : Limits) (line : List ℕ) (s : Session) (input_failed output_failed : Type 0)
+    (j : Identifiers) (t : State) :
     DebugEnd → Type 0 where
   at_cycle : (why : Stop) (end : DebugEnd) → FailsAtCycle L line s why j t → EndsBy input_failed output_failed why end →
       Fails L line s input_failed output_failed j t end
-  at_reply : (k : ℕ) → FailsAtReply L line s k j t → output_failed → Fails L line s input_failed output_failed j t WriteFault
+  at_reply : (k : ℕ) → FailsAtReply L line s k j t → output_failed →
+      Fails L line s input_failed output_failed j t WriteFault
   no_memory : FailsAtReply L line s 0 j t → Fails L line s input_failed output_failed j t Memory
 
 -- How a session of so many turns ends, with these bytes of commands and what is left of them, from a session
 -- to these identifiers and this state: at `q`; where no byte of a line is left; after its turns; at a byte that
 -- couldn't be read, of which the bytes of its line are gone; or in a line that couldn't be ended.
-pub data Debugs (L : Limits) (turns : ℕ) (bytes rest : List ℕ) (s : Session) (commands_failed input_failed output_failed : Type 0) :
+pub data Debugs (L : Limits) (turns : ℕ) (bytes rest : List ℕ) (s : Session)
+    (commands_failed input_failed output_failed : Type 0) :
     Identifiers → State → DebugEnd → Type 0 where
   turns_made : (lines : List (List ℕ)) (t : Session) → Passes bytes lines rest → length lines ≡ turns →
-      Obeys L lines s t → Debugs L turns bytes rest s commands_failed input_failed output_failed t.identifiers t.state Turns
+      Obeys L lines s t → Debugs L turns bytes rest s commands_failed input_failed output_failed
+      t.identifiers t.state Turns
   no_line : (lines : List (List ℕ)) (t : Session) → Passes bytes lines [] → rest ≡ [] → length lines < turns →
-      Obeys L lines s t → Debugs L turns bytes rest s commands_failed input_failed output_failed t.identifiers t.state EndOfCommands
+      Obeys L lines s t → Debugs L turns bytes rest s commands_failed input_failed output_failed
+      t.identifiers t.state EndOfCommands
   quits : (lines : List (List ℕ)) (last : List ℕ) (t : Session) → Passes bytes lines last → length lines < turns →
       IsLine last quit_line rest → Obeys L lines s t →
       Debugs L turns bytes rest s commands_failed input_failed output_failed t.identifiers t.state Quit
@@ -77,7 +84,8 @@ pub data Debugs (L : Limits) (turns : ℕ) (bytes rest : List ℕ) (s : Session)
       Debugs L turns bytes rest s commands_failed input_failed output_failed t.identifiers t.state ReadFault
   fails : (lines : List (List ℕ)) (line last : List ℕ) (t : Session) (j : Identifiers) (u : State) (end : DebugEnd) →
       Passes bytes lines last → length lines < turns → IsLine last line rest → line ≢ quit_line →
-      Obeys L lines s t → Fails L line t input_failed output_failed j u end → Debugs L turns bytes rest s commands_failed input_failed output_failed j u end
+      Obeys L lines s t → Fails L line t input_failed output_failed j u end →
+      Debugs L turns bytes rest s commands_failed input_failed output_failed j u end
 
 -- A session as a call over any sources and any sink: of the commands these bytes may be taken to have been
 -- there, and to be left; and the call led the machine, its input and the output so.

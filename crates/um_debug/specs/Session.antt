@@ -1,11 +1,13 @@
 -- What the lines of a session do, one after the other.
-use Rattle.std.specs.Prelude.{ℕ, ◌+◌, ◌==◌, nat_lt, nat_le, ◌&&◌, Bool, not, if◌then◌else◌, List, [], ◌∷◌, ◌++◌, codes, decimal, filter, length, Option, Some, None}
+use Rattle.std.specs.Prelude.{ℕ, ◌+◌, ◌==◌, nat_lt, nat_le, ◌&&◌, Bool, not, if◌then◌else◌, List}
+use Rattle.std.specs.Prelude.{[], ◌∷◌, ◌++◌, codes, decimal, filter, length, Option, Some, None}
 use Rattle.std.specs.List.{list_any}
 use Rattle.umix_base.specs.declared.limits.Limits.{Limits}
 use Rattle.um_word.specs.State.{State}
 use Rattle.um_word.specs.Rule.{Identifiers}
 use Rattle.um_debug.specs.declared.command.Command.{Command}
-use Rattle.um_debug.specs.declared.command.Command.TheVariants.{Step, Go, Breakpoint, Watch, Registers, Words, Finger, Quit}
+use Rattle.um_debug.specs.declared.command.Command.TheVariants.{Step, Go, Breakpoint, Watch}
+use Rattle.um_debug.specs.declared.command.Command.TheVariants.{Registers, Words, Finger, Quit}
 use Rattle.um_debug.specs.declared.command.WordPlace.{WordPlace}
 use Rattle.um_debug.specs.declared.course.Came.TheVariants.{Stopped}
 use Rattle.um_debug.specs.Commands.{IsCommandLine, most_cycles}

@@ -1,6 +1,6 @@
 //! Where runs are to stop: breakpoints, and watches on words.
 
-ghost use Rattle.std.specs.Prelude.{◌≡◌, ◌≤◌, ◌<◌, ◌==◌, List, [], length, OnErr, IfOk, MatchBool};
+ghost use Rattle.std.specs.Prelude.{◌≡◌, ◌≤◌, ◌<◌, ◌==◌, [], length, OnErr, IfOk, MatchBool};
 ghost use Rattle.um_word.specs.State.{Arrays};
 ghost use Rattle.um_debug.specs.Course.{no_points, seen_at};
 ghost use Rattle.um_debug.specs.Session.{toggled, is_place, most_breakpoints, most_watches};

@@ -1,10 +1,12 @@
 //! One line of a session.
 
-ghost use Rattle.std.specs.Prelude.{◌≡◌, ◌≤◌, ◌<◌, ◌+◌, ◌^◌, ◌==◌, ◌++◌, Err, IfOk, MatchBool, Some, codes, decimal, nat_le};
+ghost use Rattle.std.specs.Prelude.{◌≡◌, ◌≤◌, ◌<◌, ◌+◌, ◌^◌, ◌==◌, ◌++◌, Err, IfOk, Some, codes};
+ghost use Rattle.std.specs.Prelude.{decimal, nat_le};
 ghost use Rattle.um_machine.specs.Outside.{IsAsked, IsFed};
 ghost use Rattle.um_machine.specs.Runs.{seen_by, GoesFromTo};
 ghost use Rattle.um_debug.specs.Commands.{most_cycles};
-ghost use Rattle.um_debug.specs.Replies.{came_text, registers_text, words_text, finger_text, unknown_text};
+ghost use Rattle.um_debug.specs.Replies.{came_text, registers_text, words_text, finger_text};
+ghost use Rattle.um_debug.specs.Replies.{unknown_text};
 ghost use Rattle.um_debug.specs.Session.{toggled, is_place, most_breakpoints, most_watches, sent};
 ghost use Rattle.um_debug.specs.inner.Calls.{MayAsk, CyclesEnd, CommandEnds, AnswerEnds, ObeyEnds};
 ghost use Rattle.um_debug.specs.inner.Calls.{Sets, InputRose, OutputRose};

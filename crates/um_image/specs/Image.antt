@@ -1,5 +1,6 @@
 -- The image of a machine: its words in their order, who has one, and which bytes begin one.
-use Rattle.std.specs.Prelude.{◌≡◌, ℕ, zero, suc, ◌/◌, ◌%◌, ◌^◌, ◌≤◌, Bool, true, false, List, [], ◌∷◌, ◌++◌, length, take, Option, Some, None}
+use Rattle.std.specs.Prelude.{◌≡◌, ℕ, zero, suc, ◌/◌, ◌%◌, ◌^◌, ◌≤◌, Bool, true, false, List, []}
+use Rattle.std.specs.Prelude.{◌∷◌, ◌++◌, length, take, Option, Some, None}
 use Rattle.std.specs.FinMap as map
 use Rattle.um_word.specs.State.{Arrays, array_at}
 use Rattle.um_word.specs.Scroll.{scroll}

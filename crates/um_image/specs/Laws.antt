@@ -1,7 +1,8 @@
 -- Machines and their images.
 use Rattle.std.specs.Prelude.{◌≡◌, ℕ, ◌+◌, ◌<◌, ◌≤◌, ◌↔◌, List, [], ◌++◌, length, drop, All}
 use Rattle.um_machine.specs.declared.stop.Stop.{Stop}
-use Rattle.um_machine.specs.declared.stop.Stop.TheVariants.{Halted, Budget, ReadFault, WriteFault, Memory}
+use Rattle.um_machine.specs.declared.stop.Stop.TheVariants.{Halted, Budget, ReadFault, WriteFault}
+use Rattle.um_machine.specs.declared.stop.Stop.TheVariants.{Memory}
 use Rattle.um_machine.specs.MachineView.{MachineView, state_of}
 use Rattle.um_machine.specs.Runs.{RunEnds}
 use Rattle.um_image.specs.Counting.{TakesBytes}

@@ -3,7 +3,8 @@ ghost use Rattle.std.specs.Prelude.{◌≡◌};
 ghost use Rattle.um_machine.specs.MachineParts.{most_saved_cycles};
 ghost use Rattle.um_image.specs.Image.{image_mark, most_image_bytes};
 ghost use Rattle.um_image.specs.inner.Head.{head_length};
-ghost use Rattle.um_image.specs.Laws.{ImagesTellApart, ImagesKeepRules, ImagesAreShort, ResumedRunsGoOn, ResumedRunsJoin};
+ghost use Rattle.um_image.specs.Laws.{ImagesTellApart, ImagesKeepRules, ImagesAreShort};
+ghost use Rattle.um_image.specs.Laws.{ResumedRunsGoOn, ResumedRunsJoin};
 
 use crate::numbers::{HEAD_LENGTH, IMAGE_MARK, MOST_IMAGE_BYTES, MOST_SAVED_CYCLES};
 

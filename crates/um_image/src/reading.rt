@@ -1,13 +1,16 @@
 //! The machine of an image.
 
-ghost use Rattle.std.specs.Prelude.{◌≡◌, ◌≤◌, ◌<◌, ◌+◌, ◌*◌, ◌++◌, ◌↔◌, ℕ, length, take, false, IfOk, IfErr, OnOk, IsTrue, MatchOption, slice_index_or, vec_len};
+ghost use Rattle.std.specs.Prelude.{◌≡◌, ◌≤◌, ◌<◌, ◌+◌, ◌*◌, ◌++◌, ◌↔◌, ℕ, length, take, false};
+ghost use Rattle.std.specs.Prelude.{IfOk, IfErr, OnOk, IsTrue, MatchOption, slice_index_or};
+ghost use Rattle.std.specs.Prelude.{vec_len};
 ghost use Rattle.std.specs.Int.{w32, to_be_bytes};
 ghost use Rattle.um_word.specs.Scroll.{scroll};
 ghost use Rattle.array_store.specs.Parts.{is_among, listed};
 ghost use Rattle.um_image.specs.Image.{HasImage, image_of, image_mark};
 ghost use Rattle.um_image.specs.Refusals.{RefusesImage};
-ghost use Rattle.um_image.specs.inner.Head.{AreWords, HeadFits, head_length, long, made_in};
-ghost use Rattle.um_image.specs.inner.Reading.{HasWordAt, ReaderStops, HeadRead, IdsRead, ZeroRead, ArraysRead, ArrayRead, ArrayStops};
+ghost use Rattle.um_image.specs.inner.Head.{AreWords, HeadFits, long, made_in};
+ghost use Rattle.um_image.specs.inner.Reading.{HasWordAt, ReaderStops, HeadRead, IdsRead, ZeroRead};
+ghost use Rattle.um_image.specs.inner.Reading.{ArraysRead, ArrayRead, ArrayStops};
 
 use crate::fault::ImageFault;
 use crate::numbers::{HEAD_LENGTH, IMAGE_MARK, MOST_IMAGE_BYTES, MOST_SAVED_CYCLES};

@@ -1,12 +1,12 @@
 //! The image of a machine.
 
-ghost use Rattle.std.specs.Prelude.{◌≡◌, ◌≤◌, ◌<◌, ◌+◌, ◌^◌, ◌++◌, ◌∷◌, [], ℕ, List, Some, length, take, IfOk, OnOk};
+ghost use Rattle.std.specs.Prelude.{◌≡◌, ◌≤◌, ◌<◌, ◌+◌, ◌^◌, ◌++◌, ◌∷◌, [], ℕ, Some, length, IfOk};
+ghost use Rattle.std.specs.Prelude.{OnOk};
 ghost use Rattle.std.specs.FinMap as map;
 ghost use Rattle.um_word.specs.State.{array_at};
 ghost use Rattle.um_word.specs.Scroll.{scroll};
-ghost use Rattle.array_store.specs.StoreView.{HasArray};
-ghost use Rattle.um_machine.specs.MachineView.{IsWhole};
-ghost use Rattle.um_image.specs.Image.{CanBeSaved, HasImage, image_of, image_mark, two_words, flag, head_words, array_words, arrays_up_to, parts_of_machine};
+ghost use Rattle.um_image.specs.Image.{CanBeSaved, HasImage, image_of, two_words, flag, head_words};
+ghost use Rattle.um_image.specs.Image.{array_words, arrays_up_to, parts_of_machine};
 
 use crate::numbers::{HEAD_LENGTH, IMAGE_MARK};
 use std::alloc::Global;

@@ -37,7 +37,23 @@ named_by name definition = record { scope = name.scope; name = name.text.now; de
 -- what is known behind a line: its label, or the block that ends there
 abbrev pub known_by : (number : ℕ) → Option (Block (List ℕ)) → (place : ℕ) → Said → List Named
 known_by number block place (Some (Code (Some label) statement)) =
-    record { scope = scope_of block; name = label; definition = record { line = number; place = place_in_block block place; length = None } } ∷ []
+    record {
+      scope = scope_of block;
+      name = label;
+      definition = record {
+        line = number;
+        place = place_in_block block place;
+        length = None;
+      };
+    } ∷ []
 known_by number (Some block) place (Some End) =
-    record { scope = None; name = block.name; definition = record { line = block.begun; place = block.first; length = Some (place_in_block (Some block) place) } } ∷ []
+    record {
+      scope = None;
+      name = block.name;
+      definition = record {
+        line = block.begun;
+        place = block.first;
+        length = Some (place_in_block (Some block) place);
+      };
+    } ∷ []
 known_by number block place _ = []

@@ -1,5 +1,6 @@
 -- What the code keeps of a text: parts of it, read as texts of their own, and where it stands.
-use Rattle.std.specs.Prelude.{◌≡◌, ℕ, ◌+◌, ◌<◌, ◌≤◌, nat_eq, ◌⊎◌, IsTrue, if◌then◌else◌, List, [], ◌∷◌, ◌++◌, Option, Some, None, Result, Ok, Err}
+use Rattle.std.specs.Prelude.{◌≡◌, ℕ, ◌+◌, ◌<◌, ◌≤◌, nat_eq, ◌⊎◌, IsTrue, if◌then◌else◌, List, []}
+use Rattle.std.specs.Prelude.{◌∷◌, ◌++◌, Option, Some, None, Result, Ok, Err}
 use Rattle.std.specs.Borrow.{Bor}
 use Rattle.std.specs.Option.{option_map, option_eq}
 use Rattle.um_asm.specs.declared.line.Value.{Value}
@@ -65,7 +66,8 @@ unended_from number block place (line ∷ lines) =
 
 -- what a line says in its block, where it is known which block isn't ended
 abbrev pub said_in : (unended : Option ℕ) → (number : ℕ) → Option (Block (List ℕ)) → Said → Said
-said_in unended number None (Some (Array name)) = if option_eq nat_eq unended (Some number) then None else Some (Array name)
+said_in unended number None (Some (Array name)) = if option_eq nat_eq unended (Some number)
+    then None else Some (Array name)
 said_in unended number None (Some End) = None
 said_in unended number (Some block) (Some (Array name)) = None
 said_in unended number block line = line

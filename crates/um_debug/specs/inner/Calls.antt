@@ -1,5 +1,6 @@
 -- What the calls of a session come to.
-use Rattle.std.specs.Prelude.{◌≡◌, ℕ, ◌+◌, ◌^◌, ◌<◌, ◌≤◌, List, [], ◌++◌, codes, length, slice_get, Option, Some, None, Result, Ok, Err, Vec}
+use Rattle.std.specs.Prelude.{◌≡◌, ℕ, ◌+◌, ◌^◌, ◌<◌, ◌≤◌, List, [], ◌++◌, codes, length, slice_get}
+use Rattle.std.specs.Prelude.{Option, Some, None, Result, Ok, Err, Vec}
 use Rattle.std.specs.declared.alloc.Global.{Global}
 use Rattle.umix_base.specs.Causes.{Rose}
 use Rattle.umix_base.specs.declared.source.Source as source
@@ -26,7 +27,8 @@ use Rattle.um_debug.specs.Commands.{most_cycles}
 use Rattle.um_debug.specs.CommandLines.{IsLine, HasNoLineFeed, most_line_bytes}
 use Rattle.um_debug.specs.Course.{Points, Going, Goes, Ends, goes_for, IsCutOff}
 use Rattle.um_debug.specs.Replies.{word_at}
-use Rattle.um_debug.specs.Session.{Session, Answer, Toggled, Off, On, Full, after, sent, answer, cycles_answer, AnswersLine}
+use Rattle.um_debug.specs.Session.{Session, Answer, Toggled, Off, On, Full, after, sent, answer}
+use Rattle.um_debug.specs.Session.{cycles_answer, AnswersLine}
 use Rattle.um_debug.specs.Debugging.{EndsBy, Fails, cycles_of, looks_at}
 
 -- a line that was taken from bytes that may have been there before, whatever may be left
@@ -123,10 +125,12 @@ MayAsk (Words place count) = (1 ≤ count) × (place.offset + count ≤ 2 ^ 32)
 MayAsk command = Unit {0}
 
 -- a command failed in one of its cycles, or there was no memory for its reply
-pub data CommandFails (L : Limits) (command : Command) (s : Session) (input output : Type 0) (j : Identifiers) (t : State) :
+pub data CommandFails (L : Limits) (command : Command) (s : Session) (input output : Type 0)
+    (j : Identifiers) (t : State) :
     DebugEnd → Type 0 where
   command_failed : (why : Stop) (end : DebugEnd) → s.state.cycles + cycles_of command ≤ most_cycles →
-      IsCutOff L (looks_at command s.points) (cycles_of command) s.identifiers s.state why j t → EndsBy input output why end →
+      IsCutOff L (looks_at command s.points) (cycles_of command) s.identifiers s.state why j t →
+      EndsBy input output why end →
       CommandFails L command s input output j t end
   no_reply : j ≡ (answer L command s).session.identifiers → t ≡ (answer L command s).session.state →
       CommandFails L command s input output j t ends.Memory
@@ -143,7 +147,8 @@ CommandEnds command input output old new before now s t (Err end) =
 abbrev pub AnswerEnds : List ℕ → (input output : Type 0) → (old new : MachineView) → (before now : Points) →
     (s t : State) → Result (Vec ℕ Global) DebugEnd → Type 0
 AnswerEnds line input output old new before now s t (Ok reply) =
-    (a : Answer) × AnswersLine old.limits line (session_of old s before) a × IsAnswer a (session_of new t now) reply.items
+    (a : Answer) × AnswersLine old.limits line (session_of old s before) a ×
+    IsAnswer a (session_of new t now) reply.items
 AnswerEnds line input output old new before now s t (Err end) =
     Fails old.limits line (session_of old s before) input output new.identifiers t end
 

@@ -9,8 +9,8 @@ use std::test::Fail;
 use um_word::bytes_of;
 use umix_base::{MemShelf, MemSink, MemSource, Memory};
 
-// the image of the first scroll after two cycles, byte for byte
-pub const IMAGE: &[u8] = &[
+/// The image of the first scroll after two cycles, byte for byte.
+pub(super) const IMAGE: &[u8] = &[
     0x55, 0x4d, 0x49, 0x31, 0, 0, 0, 0x41, 0, 0, 0, 0, 0, 0, 0, 0, 0, 0, 0, 0, 0, 0, 0, 0, 0, 0, 0,
     0, 0, 0, 0, 0, 0, 0, 0, 0, 0, 0, 0, 2, 0, 0, 0, 0, 0, 0, 0, 2, 0, 0, 0, 0, 0, 0, 0, 0, 0, 0, 0,
     0, 0, 0, 0, 0, 0, 0, 0, 0, 0, 0, 0, 3, 0xd0, 0, 0, 0x41, 0xa0, 0, 0, 0, 0x70, 0, 0, 0,
