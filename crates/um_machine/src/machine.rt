@@ -1,6 +1,6 @@
 //! The machine and its calls.
 
-ghost use Rattle.std.specs.Prelude.{◌≡◌, ◌<◌, ◌≤◌, ◌+◌, ◌^◌, ◌⊎◌, ℕ, List, [], slice_get, slice_index, slice_set, false, length, is_some, IfSome, IfOk, OnOk, OnErr, IfErr, Some, Err};
+ghost use Rattle.std.specs.Prelude.{◌≡◌, ◌<◌, ◌≤◌, ◌+◌, ◌^◌, ◌⊎◌, ℕ, List, [], slice_get, slice_index, slice_set, false, length, IfSome, IfOk, OnOk, OnErr, IfErr, Some, Err};
 ghost use Rattle.std.specs.Option.{option_map};
 ghost use Rattle.std.specs.FinMap as map;
 ghost use Rattle.um_word.specs.Operators.{IsEncodable};
@@ -294,7 +294,8 @@ impl Machine {
     // a duplicate of array B takes the place of array 0
     fn load(&mut self, b: u8, c: u8) -> Result<(), Stop>
         requires registers { (b < 8) × (c < 8) }
-        ensures { DoesRow (Op.Load b c) self.old self.new result }
+        ensures row { DoesRow (Op.Load b c) self.old self.new result }
+        ensures registers { self.new.registers ≡ self.old.registers }
     {
         let id = self.register(b);
         match self.store.load(id) {
@@ -412,9 +413,8 @@ impl Machine {
                 Err(Failed) => Err(Stop::ReadFault),
             },
             Op::Load(b, c) => {
-                let there = self.register(c);
                 self.load(b, c)?;
-                *finger = there;
+                *finger = self.register(c);
                 Ok(Turn::Running)
             }
             Op::Set(a, value) => {
