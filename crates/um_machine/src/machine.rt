@@ -1,6 +1,6 @@
 //! The machine and its calls.
 
-ghost use Rattle.std.specs.Prelude.{◌≡◌, ◌<◌, ◌≤◌, ◌+◌, ◌^◌, ◌⊎◌, ℕ, List, [], slice_get, slice_index, slice_set, false, length, IfSome, IfOk, OnOk, OnErr, IfErr, Some, Err};
+ghost use Rattle.std.specs.Prelude.{◌≡◌, ◌<◌, ◌≤◌, ◌+◌, ◌^◌, ◌⊎◌, ℕ, List, [], slice_get, slice_index, slice_set, true, false, length, IfSome, IfOk, OnOk, OnErr, IfErr, Some, Err};
 ghost use Rattle.std.specs.Option.{option_map};
 ghost use Rattle.std.specs.FinMap as map;
 ghost use Rattle.um_word.specs.Operators.{IsEncodable};
@@ -488,6 +488,8 @@ impl Machine {
             input.new ≡ input.old }
         ensures unfed { is_output (op_under (state_of self.old [] [])) ≡ false →
             out.new ≡ out.old }
+        ensures halted { self.old.halted ≡ true → (self.new ≡ self.old)
+            × (input.new ≡ input.old) × (out.new ≡ out.old) }
         ensures kept { OnErr result
             ((self.new ≡ self.old) × (I.rest input.new ≡ I.rest input.old)) }
         ensures limits { self.new.limits ≡ self.old.limits }
