@@ -7,3 +7,4 @@ pub mod Adding
 pub mod Walking
 pub mod Clean
 pub mod Listed
+pub mod TextWalk

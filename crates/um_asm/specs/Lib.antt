@@ -4,4 +4,5 @@ pub mod Lines
 pub mod Scopes
 pub mod Assembly
 pub mod Listing
+pub mod TextLines
 pub mod inner

@@ -14,8 +14,10 @@ mod position;
 mod reading;
 #[cfg(test)]
 mod tests;
+mod text_line;
 mod token;
 
 pub use assembler::assemble;
 pub use fault::AsmFault;
 pub use listing::disassemble;
+pub use text_line::{Head, TextLine, text_lines};

@@ -46,7 +46,7 @@ fn content_at(text: &[u8]) -> Option<Line<&[u8]>>
     }
 }
 
-fn is_printable(line: &[u8]) -> bool
+pub(crate) fn is_printable(line: &[u8]) -> bool
     ensures { result ≡ list_all is_printable line.now }
 {
     line.iter().all(|byte| *byte >= 32 && *byte <= 126)
