@@ -1,0 +1,5 @@
+pub mod Words
+pub mod Help
+pub mod Statuses
+pub mod Outside
+pub mod Explaining
