@@ -12,7 +12,7 @@ use Rattle.explain_top.specs.declared.status.Status.TheVariants.{WriteFault, Mem
 use Rattle.explain_top.specs.Help.{help_text}
 use Rattle.explain_top.specs.Outside.{Shelved, Stream, Received}
 use Rattle.explain_top.specs.Statuses.{line_of}
-use Rattle.explain_top.specs.Words.{Job, shows, helps, Asks}
+use Rattle.explain_top.specs.Words.{Job, shows, helps, AsksFor}
 
 -- the text was received whole, and this is the status; or a beginning of it, by a write that failed
 pub data IsPut (text : List ℕ) (status : Status) (before now : Stream) : Status → Type 0 where
@@ -63,10 +63,10 @@ pub data PageShown (file : List ℕ) (shelf shelf' : Shelved) (before now : Stre
 -- or it writes the help text, to the output where that was asked for, and else to `err`.
 pub data Explained (words : List (List ℕ)) (shelf shelf' : Shelved) (out out' err err' : Stream) :
     Status → Type 0 where
-  grid : (file : List ℕ) (status end : Status) → Asks words (shows file) →
+  grid : (file : List ℕ) (status end : Status) → AsksFor words (shows file) →
       PageShown file shelf shelf' out out' status → IsTold status err err' end →
       Explained words shelf shelf' out out' err err' end
-  help : (end : Status) → Asks words helps → shelf' ≡ shelf → err' ≡ err →
+  help : (end : Status) → AsksFor words helps → shelf' ≡ shelf → err' ≡ err →
       IsPut help_text Done out out' end → Explained words shelf shelf' out out' err err' end
-  unknown : (end : Status) → ((job : Job) → Asks words job → ⊥) → shelf' ≡ shelf → out' ≡ out →
+  unknown : (end : Status) → ((job : Job) → AsksFor words job → ⊥) → shelf' ≡ shelf → out' ≡ out →
       IsPut help_text Usage err err' end → Explained words shelf shelf' out out' err err' end

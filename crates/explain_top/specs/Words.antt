@@ -9,9 +9,9 @@ pub data Job : Type 0 where
   helps : Job
 
 -- the lists of words that ask for something; any word may be a file's name
-pub data Asks : List (List ℕ) → Job → Type 0 where
-  grid : (file : List ℕ) → Asks (codes "grid" ∷ file ∷ []) (shows file)
-  help : Asks (codes "help" ∷ []) helps
+pub data AsksFor : List (List ℕ) → Job → Type 0 where
+  grid : (file : List ℕ) → AsksFor (codes "grid" ∷ file ∷ []) (shows file)
+  help : AsksFor (codes "help" ∷ []) helps
 
 -- a job of the code as plain data
 abbrev pub work_of : JobKept → Job
@@ -20,5 +20,5 @@ work_of Help = helps
 
 -- the job that the words ask for was found; or none, and they ask for none
 abbrev pub IsFound : List (List ℕ) → Option JobKept → Type 0
-IsFound words None = (job : Job) → Asks words job → ⊥
-IsFound words (Some job) = Asks words (work_of job)
+IsFound words None = (job : Job) → AsksFor words job → ⊥
+IsFound words (Some job) = AsksFor words (work_of job)

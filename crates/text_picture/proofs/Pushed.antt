@@ -9,7 +9,7 @@ use Rattle.std.proofs.lemmas.List.{take_more, map-append}
 use Rattle.std.proofs.lemmas.List.FromFn.{map-range_with_len_more}
 use Rattle.umix_base.specs.declared.place.Place.{Place}
 use Rattle.text_picture.specs.Pictures.{first_column, joined, lined, lines_around, picture_lines, ruler}
-use Rattle.text_picture.specs.Rows.{rows, rows_read}
+use Rattle.text_picture.specs.Rows.{text_rows, rows_read}
 
 -- one byte more of those that a function gives from a number on
 pub next_of : (f : ℕ → ℕ) (old now next : List ℕ) (from k b : ℕ) → now ≡ old ++ map f (range_with_len from k) → b ≡ f (from + k)
@@ -67,10 +67,10 @@ row_none (x ∷ xs) (suc i) le = row_none xs i (omega (arith, le))
 
 -- the ruler and the lines of the rows are the picture
 pub picture_made : (text : List ℕ) (mark : Place) (first : ℕ) (all : List (List ℕ)) (none ruled page : List ℕ) → none ≡ [] → first ≡ first_column mark.col
-    → all ≡ rows text → ruled ≡ none ++ (ruler first ++ 10 ∷ []) → page ≡ ruled ++ lined (lines_around all mark) → page ≡ lined (picture_lines text mark)
+    → all ≡ text_rows text → ruled ≡ none ++ (ruler first ++ 10 ∷ []) → page ≡ ruled ++ lined (lines_around all mark) → page ≡ lined (picture_lines text mark)
 picture_made text mark first all none ruled page empty at_col are line more =
     more
     ∙ (ap (λ (t : List ℕ). t ++ lined (lines_around all mark)) (line ∙ (ap (λ (t : List ℕ). t ++ (ruler first ++ 10 ∷ [])) empty
     ∙ ap (λ (n : ℕ). ruler n ++ 10 ∷ []) at_col))
     ∙ (ap (λ (rs : List (List ℕ)). (ruler (first_column mark.col) ++ 10 ∷ []) ++ lined (lines_around rs mark)) are
-    ∙ sym (flat_map-cons (λ line. line ++ 10 ∷ []) (ruler (first_column mark.col)) (lines_around (rows text) mark))))
+    ∙ sym (flat_map-cons (λ line. line ++ 10 ∷ []) (ruler (first_column mark.col)) (lines_around (text_rows text) mark))))

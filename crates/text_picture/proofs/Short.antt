@@ -9,7 +9,7 @@ use Rattle.std.proofs.lemmas.List.Elements.{All-append, All-cons, All-map, All-n
 use Rattle.std.proofs.lemmas.List.FromFn.{get_or-range_with_len, length-map-range_with_len, length-range_with_len}
 use Rattle.umix_base.specs.declared.place.Place.{Place}
 use Rattle.text_picture.specs.Pictures.{first_column, first_row, joined, lines_around, lines_at, lines_of_row, margin, mark_line, picture_lines, row_count, row_line, ruler, ruler_sign}
-use Rattle.text_picture.specs.Rows.{cells_from, less_end, rows, shown}
+use Rattle.text_picture.specs.Rows.{cells_from, less_end, text_rows, shown}
 
 abbrev IsShort : List ℕ → Type 0
 IsShort line = length line ≤ 100
@@ -87,4 +87,4 @@ around_short all mark low =
 
 pub law : (text : List ℕ) (mark : Place) → mark.row < 2 ^ 32 → All IsShort (picture_lines text mark)
 law text mark low =
-    All-cons IsShort (ruler (first_column mark.col)) (lines_around (rows text) mark) (ruler_short (first_column mark.col)) (around_short (rows text) mark low)
+    All-cons IsShort (ruler (first_column mark.col)) (lines_around (text_rows text) mark) (ruler_short (first_column mark.col)) (around_short (text_rows text) mark low)

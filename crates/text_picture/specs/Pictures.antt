@@ -4,7 +4,7 @@ use Rattle.std.specs.Prelude.{slice_index_or, if◌then◌else◌, codes, decima
 use Rattle.std.specs.List.{flat_map, range_with_len}
 use Rattle.std.specs.Str.{byte}
 use Rattle.umix_base.specs.declared.place.Place.{Place}
-use Rattle.text_picture.specs.Rows.{rows, cells_from}
+use Rattle.text_picture.specs.Rows.{text_rows, cells_from}
 
 -- the first column that is shown around a column: the first of all, where the column is one of 80
 abbrev pub first_column : ℕ → ℕ
@@ -63,7 +63,7 @@ lines_around all mark =
 
 -- the lines of the picture of a text around a place: the ruler, and those of the rows
 abbrev pub picture_lines : List ℕ → Place → List (List ℕ)
-picture_lines text mark = ruler (first_column mark.col) ∷ lines_around (rows text) mark
+picture_lines text mark = ruler (first_column mark.col) ∷ lines_around (text_rows text) mark
 
 -- lines as a text, each ended by LF
 abbrev pub lined : List (List ℕ) → List ℕ

@@ -11,8 +11,8 @@ less_end end bytes =
     if slice_index bytes (length bytes - 1) == end then take (length bytes - 1) bytes else bytes
 
 -- the rows of a text: what stands between its LFs, of which one may end it
-abbrev pub rows : List ℕ → List (List ℕ)
-rows text = slice_split (λ b. b == 10) (less_end 10 text)
+abbrev pub text_rows : List ℕ → List (List ℕ)
+text_rows text = slice_split (λ b. b == 10) (less_end 10 text)
 
 -- a byte as it is shown: itself where it is printable, and else a `?`
 abbrev pub shown : ℕ → ℕ

@@ -9,7 +9,7 @@ use std::alloc::{AllocError, Global};
 
 /// The rows of a text.
 pub(crate) fn rows(alloc: Global, text: &[u8]) -> Result<Vec<&[u8]>, AllocError>
-    ensures { IfOk result (λ parts. rows_read parts.items ≡ plain.rows text.now) }
+    ensures { IfOk result (λ parts. rows_read parts.items ≡ plain.text_rows text.now) }
 {
     parts(alloc, less_end(text, b'\n'))
 }
