@@ -4,7 +4,8 @@ use Rattle.std.specs.FinMap as map
 use Rattle.umix_base.specs.declared.limits.Limits.{Limits}
 use Rattle.um_word.specs.State.{array_at, live_arrays, live_words}
 use Rattle.array_store.specs.declared.fault.StoreFault.{StoreFault}
-use Rattle.array_store.specs.declared.fault.StoreFault.TheVariants.{Inactive, Outside, Zero, ArraysFull, WordsFull, Memory}
+use Rattle.array_store.specs.declared.fault.StoreFault.TheVariants.{Inactive, Outside, Zero}
+use Rattle.array_store.specs.declared.fault.StoreFault.TheVariants.{ArraysFull, WordsFull, Memory}
 use Rattle.array_store.specs.StoreView.{StoreView, HasArray}
 
 -- a new store with these words in array 0

@@ -1,14 +1,20 @@
 // Each array stands in a vector of its own, at the place that its identifier numbers; array 0 and the
 // array that it names stand in one together, `zero`.
-ghost use Rattle.std.specs.Prelude.{Some, ◌≡◌, ℕ, ◌+◌, ◌-◌, ◌^◌, ◌≤◌, ◌<◌, List, length, replicate, slice_get, slice_set, slice_index, option_copied, vec_len, vec_capacity, All, IfOk, IfErr, OnOk, OnErr};
+ghost use Rattle.std.specs.Prelude.{Some, ◌≡◌, ℕ, ◌+◌, ◌-◌, ◌^◌, ◌≤◌, ◌<◌, List, length, replicate};
+ghost use Rattle.std.specs.Prelude.{slice_get, slice_set, slice_index, option_copied, vec_len};
+ghost use Rattle.std.specs.Prelude.{vec_capacity, All, IfOk, IfErr, OnOk, OnErr};
 ghost use Rattle.std.specs.Option.{option_map};
 ghost use Rattle.std.specs.FinMap as map;
 ghost use Rattle.um_word.specs.State.{array_at, live_arrays, live_words, words_in};
 ghost use Rattle.um_word.specs.Rule.{next_identifier, taken, handed_back};
-ghost use Rattle.array_store.specs.StoreView.{most_live_arrays, most_live_words, most_limits, IsStore, HasArray, HasWord, new_held};
-ghost use Rattle.array_store.specs.Refusals.{RefusesNew, RefusesWord, RefusesAmendment, RefusesAllocation, FitsAllocation, RefusesAbandonment, RefusesLoad, words_loaded};
+ghost use Rattle.array_store.specs.StoreView.{most_live_arrays, most_live_words, most_limits};
+ghost use Rattle.array_store.specs.StoreView.{IsStore, HasArray, HasWord, new_held};
+ghost use Rattle.array_store.specs.Refusals.{RefusesNew, RefusesWord, RefusesAmendment};
+ghost use Rattle.array_store.specs.Refusals.{RefusesAllocation, FitsAllocation, RefusesAbandonment};
+ghost use Rattle.array_store.specs.Refusals.{RefusesLoad, words_loaded};
 ghost use Rattle.array_store.specs.Parts.{AreParts, listed, parts_by, store_of_parts};
-ghost use Rattle.array_store.specs.inner.Slots.{slot_arrays, arrays_of, identifiers_of, HasOwnWords, IsLent, arrays_put, AllFit};
+ghost use Rattle.array_store.specs.inner.Slots.{slot_arrays, arrays_of, identifiers_of};
+ghost use Rattle.array_store.specs.inner.Slots.{HasOwnWords, IsLent, arrays_put, AllFit};
 
 use crate::fault::StoreFault;
 use std::alloc::Global;

@@ -1,5 +1,10 @@
-ghost use Rattle.box_parse.specs.inner.ReaderOnLists.{Gives, bare_at, case_at, choose_at, command_at, ended_at, exp_at, first_at, head_at, head_bytes, head_of, innermost_at, inside_at, is_name_byte, leaf_of, list_at, name_at, name_len, named, opens, out_at, outs_at, quoted_at, run, second_at, side_at, tail_at};
-ghost use Rattle.std.specs.Prelude.{◌≡◌, ◌≤◌, List, length, map};
+ghost use Rattle.box_parse.specs.inner.ReaderOnLists.{Gives, bare_at, case_at, choose_at};
+ghost use Rattle.box_parse.specs.inner.ReaderOnLists.{command_at, ended_at, exp_at, first_at};
+ghost use Rattle.box_parse.specs.inner.ReaderOnLists.{head_at, head_of, innermost_at, inside_at};
+ghost use Rattle.box_parse.specs.inner.ReaderOnLists.{is_name_byte, leaf_of, list_at, name_at};
+ghost use Rattle.box_parse.specs.inner.ReaderOnLists.{name_len, named, opens, out_at, outs_at};
+ghost use Rattle.box_parse.specs.inner.ReaderOnLists.{quoted_at, run, second_at, side_at, tail_at};
+ghost use Rattle.std.specs.Prelude.{◌≡◌, ◌≤◌, length, map};
 ghost use Rattle.two_d.proofs.Choices.{best};
 ghost use Rattle.two_d.proofs.Heads.{spelt};
 ghost use Rattle.two_d.proofs.Parts.{other};

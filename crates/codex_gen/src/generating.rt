@@ -1,5 +1,6 @@
 ghost use Rattle.codex_gen.specs.Answers.{IsGenerated};
-ghost use Rattle.codex_gen.specs.Generated.{form_texts, grid_of_number, main_texts, module_name, strip, value_of_number, words_after};
+ghost use Rattle.codex_gen.specs.Generated.{form_texts, grid_of_number, main_texts, module_name};
+ghost use Rattle.codex_gen.specs.Generated.{strip, value_of_number, words_after};
 ghost use Rattle.grid_picture.specs.Lined.{lined};
 ghost use Rattle.codex_gen.specs.inner.Rows.{next_text, texts_of};
 ghost use Rattle.std.specs.Prelude.{◌≡◌, ◌+◌, ◌%◌, ◌++◌, ◌<◌, ◌∷◌, [], IfOk, OnOk, codes, decimal, false, true};

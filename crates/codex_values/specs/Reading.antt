@@ -7,8 +7,10 @@ use Rattle.codex_values.specs.Value.{Value}
 -- the text a begins with an expression of the value and goes on with b
 pub data Begins : List ℕ → List ℕ → Value → Type 0 where
   unit : {a b c : List ℕ} → Symbol (codes "(") a b → Symbol (codes ")") b c → Begins a c value.unit
-  pair : {a b c d e f : List ℕ} {v w : Value} → Symbol (codes "(") a b → Begins b c v → Symbol (codes ",") c d → Begins d e w → Symbol (codes ")") e f → Begins a f (value.pair v w)
-  parens : {a b c d : List ℕ} {v : Value} → Symbol (codes "(") a b → Begins b c v → Symbol (codes ")") c d → Begins a d v
+  pair : {a b c d e f : List ℕ} {v w : Value} → Symbol (codes "(") a b → Begins b c v →
+      Symbol (codes ",") c d → Begins d e w → Symbol (codes ")") e f → Begins a f (value.pair v w)
+  parens : {a b c d : List ℕ} {v : Value} → Symbol (codes "(") a b → Begins b c v →
+      Symbol (codes ")") c d → Begins a d v
   inl : {a b c : List ℕ} {v : Value} → Word (codes "Inl") a b → Begins b c v → Begins a c (value.inl v)
   inr : {a b c : List ℕ} {v : Value} → Word (codes "Inr") a b → Begins b c v → Begins a c (value.inr v)
 

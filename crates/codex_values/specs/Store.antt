@@ -2,7 +2,8 @@
 use Rattle.std.specs.Prelude.{◌≡◌, ℕ, ◌<◌, ◌≤◌, List, [], ◌∷◌, ◌++◌, length, take, slice_index_or}
 use Rattle.codex_values.specs.Value.{Value, unit, pair, inl, inr}
 use Rattle.codex_values.specs.declared.shape.Shape.{Shape}
-use Rattle.codex_values.specs.declared.shape.Shape.TheVariants.{Unit as UnitNode, Pair as PairNode, Inl as InlNode, Inr as InrNode}
+use Rattle.codex_values.specs.declared.shape.Shape.TheVariants.{Unit as UnitNode, Pair as PairNode}
+use Rattle.codex_values.specs.declared.shape.Shape.TheVariants.{Inl as InlNode, Inr as InrNode}
 
 -- the value at a place of a list of values
 abbrev pub value_in : List Value → ℕ → Value
@@ -41,7 +42,8 @@ IsGrounded nodes = (k : ℕ) (d : Shape) → k < length nodes → PartsBelow k (
 
 -- no two places have the same node
 abbrev pub IsEachOnce : List Shape → Type 0
-IsEachOnce nodes = (i j : ℕ) (d : Shape) → i < length nodes → j < length nodes → slice_index_or nodes i d ≡ slice_index_or nodes j d → i ≡ j
+IsEachOnce nodes = (i j : ℕ) (d : Shape) → i < length nodes → j < length nodes →
+    slice_index_or nodes i d ≡ slice_index_or nodes j d → i ≡ j
 
 -- the nodes of a store
 pub record IsStore (nodes : List Shape) : Type 0 where

@@ -1,6 +1,6 @@
 //! Texts that are written piece by piece.
 
-ghost use Rattle.std.specs.Prelude.{◌≡◌, ℕ, ◌+◌};
+ghost use Rattle.std.specs.Prelude.{◌≡◌, ◌+◌};
 ghost use Rattle.std.specs.List.{flat_map};
 ghost use Rattle.umix_base.specs.Causes.{HasCause, KeepsTelling};
 ghost use Rattle.codex_values.specs.Writing.{Writes};

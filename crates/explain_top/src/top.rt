@@ -1,6 +1,6 @@
 //! The program's one call.
 
-ghost use Rattle.std.specs.Prelude.{◌≡◌, IfOk, map, string_bytes};
+ghost use Rattle.std.specs.Prelude.{◌≡◌, map, string_bytes};
 ghost use Rattle.explain_top.specs.Outside.{shelved, told};
 ghost use Rattle.explain_top.specs.Explaining.{Explained, IsPut, IsTold, PageShown, TextRead};
 

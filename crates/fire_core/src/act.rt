@@ -6,11 +6,11 @@ ghost use Rattle.codex_values.specs.Value.{Value, unit};
 ghost use Rattle.codex_values.specs.Store.{Keeps, value_at, value_in, values_of};
 ghost use Rattle.two_d.specs.Meaning as mean;
 ghost use Rattle.two_d.specs.Programs.{find};
-ghost use Rattle.two_d.specs.Trails.{Trail, KeepsTrails, trail_at, trail_of, trails_of};
+ghost use Rattle.two_d.specs.Trails.{Trail, KeepsTrails, trail_of, trails_of};
 ghost use Rattle.two_d.specs.Trees.{tree_of, form_of, outs_of};
 ghost use Rattle.fire_core.specs.inner.Acts.{effect_in, EffectFits};
 ghost use Rattle.fire_core.specs.inner.Look.{inputs_at, InputsFit};
-ghost use Rattle.fire_core.specs.inner.Rows.{cell_in, inputs_in, CellFits, IsPlace};
+ghost use Rattle.fire_core.specs.inner.Rows.{cell_in, CellFits, IsPlace};
 
 use crate::look::Inputs;
 use crate::rows::Cell;
@@ -43,7 +43,8 @@ pub(crate) fn act(
 ) -> Result<Effect, Memory>
     requires { InputsFit (length values.old) (Some inputs) }
     ensures effect { IfOk result (λ effect. effect_in (values_of values.new) (trails_of trails.new) effect
-        ≡ mean.effect_of program.now spot.kind spot.bx (form_of command.now) (inputs_at (values_of values.old) inputs)) }
+        ≡ mean.effect_of program.now spot.kind spot.bx (form_of command.now)
+        (inputs_at (values_of values.old) inputs)) }
     ensures fits { IfOk result (λ effect. EffectFits (length values.new) (length trails.new) effect) }
     ensures keeps { Keeps values.old values.new }
     ensures keeps_trails { KeepsTrails trails.old trails.new }
@@ -75,7 +76,8 @@ fn send(values: &mut ValueStore, outs: &[(Exp, Side)], inputs: Inputs) -> Result
     ensures east { IfOk result (λ cell. option_map (value_at values.new) cell.east
         ≡ mean.sent Side.E (outs_of outs.now) (inputs_at (values_of values.old) inputs)) }
     ensures stuck { IfOk result (λ cell. cell.stuck ≡ None) }
-    ensures fits { IfOk result (λ cell. IsPlace (length values.new) cell.south × IsPlace (length values.new) cell.east) }
+    ensures fits { IfOk result (λ cell. IsPlace (length values.new) cell.south ×
+        IsPlace (length values.new) cell.east) }
     ensures keeps { Keeps values.old values.new }
 {
     let south = sent(values, outs, Side::S, inputs)?;
@@ -159,7 +161,8 @@ fn parts(
 
 /// A value goes to one side.
 fn sent_to(side: Side, at: usize) -> Cell
-    ensures cell { (values : List Value) (trails : List Trail) → cell_in values trails result ≡ mean.sent_to side (value_in values at) }
+    ensures cell { (values : List Value) (trails : List Trail) → cell_in values trails result
+        ≡ mean.sent_to side (value_in values at) }
     ensures fits { (n t : ℕ) → at < n → CellFits n t (Some result) }
 {
     match side {
@@ -178,7 +181,9 @@ fn sent_to(side: Side, at: usize) -> Cell
 
 /// A box is stuck by itself.
 fn stuck_at(trails: &mut TrailStore, site: Site) -> Result<Cell, Memory>
-    ensures cell { (values : List Value) → IfOk result (λ cell. cell_in values (trails_of trails.new) cell ≡ mean.stuck_on (trail_of site)) }
+    ensures cell { (values : List Value) →
+        IfOk result (λ cell. cell_in values (trails_of trails.new) cell
+        ≡ mean.stuck_on (trail_of site)) }
     ensures fits { (n : ℕ) → IfOk result (λ cell. CellFits n (length trails.new) (Some cell)) }
     ensures keeps { KeepsTrails trails.old trails.new }
 {
@@ -193,7 +198,8 @@ fn stuck_at(trails: &mut TrailStore, site: Site) -> Result<Cell, Memory>
 /// The value of an expression, as a place of the store.
 pub(crate) fn value_of(values: &mut ValueStore, exp: &Exp, inputs: Inputs) -> Result<usize, Memory>
     requires { InputsFit (length values.old) (Some inputs) }
-    ensures value { IfOk result (λ at. value_at values.new at ≡ mean.val (tree_of exp.now) (inputs_at (values_of values.old) inputs)) }
+    ensures value { IfOk result (λ at. value_at values.new at
+        ≡ mean.val (tree_of exp.now) (inputs_at (values_of values.old) inputs)) }
     ensures place { IfOk result (λ at. at < length values.new) }
     ensures keeps { Keeps values.old values.new }
 {
@@ -220,7 +226,8 @@ pub(crate) fn value_of(values: &mut ValueStore, exp: &Exp, inputs: Inputs) -> Re
 /// The place of an input. In a good program the input of an expression is wired.
 fn place_of(values: &mut ValueStore, at: Option<usize>) -> Result<usize, Memory>
     requires { IsPlace (length values.old) at }
-    ensures value { IfOk result (λ place. value_at values.new place ≡ unwrap_or (option_map (value_at values.old) at) unit) }
+    ensures value { IfOk result (λ place. value_at values.new place
+        ≡ unwrap_or (option_map (value_at values.old) at) unit) }
     ensures place { IfOk result (λ place. place < length values.new) }
     ensures keeps { Keeps values.old values.new }
 {

@@ -115,7 +115,8 @@ impl Core {
 
     /// What instance 0 has come to, if it has ended. Its place is in its store, as `text` asks. Takes no memory.
     pub fn outcome(&self) -> Option<Outcome>
-        ensures outcome { option_map (outcome_in (values_of self.now.nodes) (trails_of self.now.trails)) result ≡ (instance_at self.now.table 0).outcome }
+        ensures outcome { option_map (outcome_in (values_of self.now.nodes)
+            (trails_of self.now.trails)) result ≡ (instance_at self.now.table 0).outcome }
         ensures places { IfSome result (IsPlaceIn (length self.now.nodes) (length self.now.trails)) }
     {
         self.instances.row(0).outcome

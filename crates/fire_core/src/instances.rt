@@ -1,9 +1,9 @@
 //! Instances with the stores of what their wires carry and of where they are stuck.
 
-ghost use Rattle.std.specs.Prelude.{◌≡◌, ◌<◌, ◌+◌, ◌^◌, ℕ, [], ◌∷◌, ◌++◌, length, true, false, None, Some, IfOk, OnOk, OnErr, slice_set};
+ghost use Rattle.std.specs.Prelude.{◌≡◌, ◌<◌, ◌+◌, ◌^◌, [], ◌∷◌, ◌++◌, length, true, None, Some};
+ghost use Rattle.std.specs.Prelude.{IfOk, OnOk, OnErr, slice_set};
 ghost use Rattle.codex_values.specs.Store.{values_of};
 ghost use Rattle.two_d.specs.Meaning as mean;
-ghost use Rattle.two_d.specs.Programs.{main_of};
 ghost use Rattle.two_d.specs.Steps as steps;
 ghost use Rattle.two_d.specs.Steps.{IsStateOf, instance_at, is_live, is_ready};
 ghost use Rattle.two_d.specs.Texts.{outcome_in};
@@ -11,7 +11,6 @@ ghost use Rattle.two_d.specs.Trails.{trails_of};
 ghost use Rattle.fire_core.specs.inner.Acts.{effect_in, EffectFits};
 ghost use Rattle.fire_core.specs.inner.Instances.{inner_count, KeepsStores};
 ghost use Rattle.fire_core.specs.inner.Look.{inputs_at, InputsFit};
-ghost use Rattle.fire_core.specs.inner.Outcomes.{TrailFits};
 ghost use Rattle.fire_core.specs.Events.{event_of};
 ghost use Rattle.fire_core.specs.inner.Rows.{CellFits, OutcomeFits, RowFits, cell_in, instance_in, row_of};
 
@@ -96,7 +95,8 @@ impl Instances {
 
     pub(crate) fn row(&self, number: usize) -> &Row
         requires { number < length self.now.table }
-        ensures row { instance_in (values_of self.now.nodes) (trails_of self.now.trails) (row_of result.now) ≡ instance_at self.now.table number }
+        ensures row { instance_in (values_of self.now.nodes) (trails_of self.now.trails)
+            (row_of result.now) ≡ instance_at self.now.table number }
         ensures inner { result.now.inner ≡ inner_count number self.now.table }
         ensures fits { RowFits (length self.now.nodes) (length self.now.trails) (row_of result.now) }
     {
@@ -126,7 +126,8 @@ impl Instances {
     fn effect(&mut self, program: &Program, number: usize, bx: usize) -> Result<Effect, Memory>
         requires state { IsStateOf program.now self.old.table }
         requires ready { is_ready program.now self.old.table (steps.Fire number bx) ≡ true }
-        ensures effect { IfOk result (λ effect. Some (effect_in (values_of self.new.nodes) (trails_of self.new.trails) effect)
+        ensures effect { IfOk result (λ effect.
+            Some (effect_in (values_of self.new.nodes) (trails_of self.new.trails) effect)
             ≡ steps.firing program.now (instance_at self.old.table number) bx) }
         ensures fits { IfOk result (λ effect. EffectFits (length self.new.nodes) (length self.new.trails) effect) }
         ensures table { self.new.table ≡ self.old.table }
@@ -203,9 +204,11 @@ impl Instances {
     fn outcome(&mut self, program: &Program, number: usize) -> Result<Outcome, Memory>
         requires state { IsStateOf program.now self.old.table }
         requires ready { is_ready program.now self.old.table (steps.End number) ≡ true }
-        ensures outcome { IfOk result (λ outcome. outcome_in (values_of self.new.nodes) (trails_of self.new.trails) outcome
+        ensures outcome { IfOk result (λ outcome.
+            outcome_in (values_of self.new.nodes) (trails_of self.new.trails) outcome
             ≡ steps.end_of program.now (instance_at self.old.table number)) }
-        ensures fits { IfOk result (λ outcome. OutcomeFits (length self.new.nodes) (length self.new.trails) (Some outcome)) }
+        ensures fits { IfOk result (λ outcome.
+            OutcomeFits (length self.new.nodes) (length self.new.trails) (Some outcome)) }
         ensures table { self.new.table ≡ self.old.table }
         ensures keeps { KeepsStores self.old self.new }
     {
@@ -220,7 +223,8 @@ impl Instances {
         requires there { number < length self.old.table }
         requires fits { OutcomeFits (length self.old.nodes) (length self.old.trails) (Some outcome) }
         requires orphan { (instance_at self.old.table number).parent ≡ None }
-        ensures table { self.new.table ≡ slice_set self.old.table number (steps.ended (instance_at self.old.table number)
+        ensures table { self.new.table ≡ slice_set self.old.table number
+            (steps.ended (instance_at self.old.table number)
             (outcome_in (values_of self.old.nodes) (trails_of self.old.trails) outcome)) }
         ensures stores { (self.new.nodes ≡ self.old.nodes) × (self.new.trails ≡ self.old.trails) }
     {
@@ -241,7 +245,9 @@ impl Instances {
         requires parent { (instance_at self.old.table number).parent ≡ Some (above, bx) }
         requires earlier { above < number }
         requires has { bx < length (instance_at self.old.table above).cells }
-        ensures ok { OnOk result (self.new.table ≡ steps.set_cell (slice_set self.old.table number (steps.ended (instance_at self.old.table number)
+        ensures ok { OnOk result (self.new.table
+            ≡ steps.set_cell (slice_set self.old.table number
+            (steps.ended (instance_at self.old.table number)
             (outcome_in (values_of self.old.nodes) (trails_of self.old.trails) outcome))) above bx
             (mean.returned (instance_at self.old.table above).kind bx (outcome_in (values_of self.old.nodes) (trails_of self.old.trails) outcome))) }
         ensures err { OnErr result (self.new.table ≡ self.old.table) }
@@ -270,7 +276,8 @@ impl Instances {
         requires there { number < length self.old.table }
         requires has { bx < length (instance_at self.old.table number).cells }
         requires fits { CellFits (length self.old.nodes) (length self.old.trails) (Some cell) }
-        ensures table { self.new.table ≡ steps.set_cell self.old.table number bx (cell_in (values_of self.old.nodes) (trails_of self.old.trails) cell) }
+        ensures table { self.new.table ≡ steps.set_cell self.old.table number bx
+            (cell_in (values_of self.old.nodes) (trails_of self.old.trails) cell) }
         ensures stores { (self.new.nodes ≡ self.old.nodes) × (self.new.trails ≡ self.old.trails) }
     {
         self.rows.mark(number, bx, cell);

@@ -1,6 +1,7 @@
 //! What is ready, kept from one event to the next as marks, of which an event changes a few.
 
-ghost use Rattle.std.specs.Prelude.{◌≡◌, ◌<◌, ◌≤◌, ◌+◌, ◌^◌, ◌==◌, ◌&&◌, ◌⊎◌, ℕ, [], List, Some, not, length, map, slice_get, true, IfOk, OnOk};
+ghost use Rattle.std.specs.Prelude.{◌≡◌, ◌<◌, ◌≤◌, ◌+◌, ◌^◌, ◌==◌, ◌&&◌, ◌⊎◌, ℕ, [], List, Some};
+ghost use Rattle.std.specs.Prelude.{not, length, map, slice_get, IfOk, OnOk};
 ghost use Rattle.codex_values.specs.Value.{Value};
 ghost use Rattle.mark_list.specs.Marks.{at};
 ghost use Rattle.ready_marks.specs.Slots.{IsRightAt, boxes_of, mark_at};
@@ -12,7 +13,9 @@ ghost use Rattle.two_d.specs.Steps.{IsStateOf, Table, is_live};
 ghost use Rattle.two_d.specs.Trails.{Trail};
 ghost use Rattle.fire_core.specs.Events.{event_of};
 ghost use Rattle.fire_core.specs.Kept.{AreAllWays, IsKeptOf, IsMost};
-ghost use Rattle.fire_core.specs.inner.Changes.{AreBoxesRight, AreRightOf, AreSpread, HasRoom, IsDue, IsNear, IsUnsetPast, KeepsRight, StaysRight, maker_of, ways_in};
+ghost use Rattle.fire_core.specs.inner.Changes.{AreBoxesRight, AreRightOf, AreSpread, HasRoom};
+ghost use Rattle.fire_core.specs.inner.Changes.{IsDue, IsNear, IsUnsetPast, KeepsRight, StaysRight};
+ghost use Rattle.fire_core.specs.inner.Changes.{maker_of, ways_in};
 ghost use Rattle.fire_core.specs.inner.Changes as changes;
 ghost use Rattle.fire_core.specs.inner.Rows.{instance_in, row_of};
 
@@ -88,7 +91,8 @@ impl Kept {
     pub(crate) fn reserve(&mut self, instances: usize) -> Result<(), Memory>
         requires there { (P : Program) × (T : Table) × IsKeptOf P T self.old × (length T ≡ instances) }
         requires instances { instances < 2 ^ 63 }
-        ensures kept { (P : Program) (T : Table) → length T ≡ instances → IsKeptOf P T self.old → IsKeptOf P T self.new }
+        ensures kept { (P : Program) (T : Table) → length T ≡ instances → IsKeptOf P T self.old →
+            IsKeptOf P T self.new }
         ensures ok { OnOk result (HasRoom instances self.new.most self.new.slots) }
     {
         self.slots.reserve(instances, self.most)
@@ -182,7 +186,8 @@ fn renew_maker(slots: &mut Slots, program: &Program, instances: &Instances, even
     requires state { IsStateOf program.now instances.now.table }
     requires spread { AreSpread program.now instances.now.table (length instances.now.table) slots.old }
     requires there { maker_of (event_of event) < length instances.now.table }
-    requires boxes { (i : ℕ) → event_of event ≡ steps.End i → AreBoxesRight program.now instances.now.table slots.old i }
+    requires boxes { (i : ℕ) → event_of event ≡ steps.End i →
+        AreBoxesRight program.now instances.now.table slots.old i }
     ensures keeps { KeepsRight program.now instances.now.table slots.old slots.new }
     ensures end { (i : ℕ) → event_of event ≡ steps.End i
         → IsRightAt program.now instances.now.table slots.new i (boxes_of program.now instances.now.table i) }
@@ -265,7 +270,8 @@ fn renew_end(slots: &mut Slots, program: &Program, instances: &Instances, number
     requires spread { AreSpread program.now instances.now.table (length instances.now.table) slots.old }
     requires boxes { AreBoxesRight program.now instances.now.table slots.old number }
     ensures keeps { KeepsRight program.now instances.now.table slots.old slots.new }
-    ensures here { IsRightAt program.now instances.now.table slots.new number (boxes_of program.now instances.now.table number) }
+    ensures here { IsRightAt program.now instances.now.table slots.new number
+        (boxes_of program.now instances.now.table number) }
 {
     let _modules = program.modules();
     let row = instances.row(number);
@@ -278,7 +284,8 @@ fn renew_end(slots: &mut Slots, program: &Program, instances: &Instances, number
 fn can_end(slots: &Slots, row: &Row, number: usize, boxes: usize) -> bool
     requires there { number < length slots.now.starts }
     requires within { at slots.now.starts number + boxes ≤ length slots.now.marks }
-    ensures { (values : List Value) (trails : List Trail) → result ≡ (is_live (instance_in values trails (row_of row.now))
+    ensures { (values : List Value) (trails : List Trail) →
+        result ≡ (is_live (instance_in values trails (row_of row.now))
         && (mean.all_below boxes (λ b. not (mark_at slots.now number b)) && (row.now.inner == 0))) }
 {
     row.outcome.is_none() && row.inner == 0 && slots.is_quiet(number, boxes)

@@ -44,7 +44,8 @@ pub(crate) fn look(row: &Row, origin: Origin) -> Option<usize>
 /// What comes to one input: nothing where it is wired and its wire carries nothing.
 fn input(row: &Row, wired: Option<Origin>) -> Option<Option<usize>>
     ensures value { (values : List Value) (trails : List Trail)
-        → option_map (option_map (value_in values)) result ≡ input_at (steps.wires (instance_in values trails (row_of row.now))) wired }
+        → option_map (option_map (value_in values)) result
+        ≡ input_at (steps.wires (instance_in values trails (row_of row.now))) wired }
     ensures place { (n t : ℕ) → RowFits n t (row_of row.now) → InputFits n result }
 {
     match wired {
@@ -59,7 +60,9 @@ fn input(row: &Row, wired: Option<Origin>) -> Option<Option<usize>>
 /// The inputs of a box, if it is enabled.
 pub(crate) fn inputs_of(row: &Row, bx: &BoxRow) -> Option<Inputs>
     ensures value { (values : List Value) (trails : List Trail)
-        → option_map (inputs_at values) result ≡ mean.inputs_of (steps.wires (instance_in values trails (row_of row.now))) (box_of bx.now) }
+        → option_map (inputs_at values) result
+        ≡ mean.inputs_of (steps.wires (instance_in values trails (row_of row.now)))
+        (box_of bx.now) }
     ensures places { (n t : ℕ) → RowFits n t (row_of row.now) → InputsFit n result }
 {
     match input(row, bx.n) {
@@ -73,7 +76,8 @@ pub(crate) fn inputs_of(row: &Row, bx: &BoxRow) -> Option<Inputs>
 
 /// The box of this number has fired.
 pub(crate) fn has_fired(row: &Row, number: usize) -> bool
-    ensures { (values : List Value) (trails : List Trail) → result ≡ is_some (steps.fired (instance_in values trails (row_of row.now)) number) }
+    ensures { (values : List Value) (trails : List Trail) →
+        result ≡ is_some (steps.fired (instance_in values trails (row_of row.now)) number) }
 {
     match row.cells.get(number) {
         Some(Some(_)) => true,
@@ -83,7 +87,8 @@ pub(crate) fn has_fired(row: &Row, number: usize) -> bool
 
 /// The box, number `number` of its module, hasn't fired and is enabled.
 pub(crate) fn can_fire(row: &Row, bx: &BoxRow, number: usize) -> bool
-    ensures { (P : Program) (values : List Value) (trails : List Trail) → box_at P row.now.kind number ≡ Some (box_of bx.now)
+    ensures { (P : Program) (values : List Value) (trails : List Trail) →
+        box_at P row.now.kind number ≡ Some (box_of bx.now)
         → result ≡ steps.can_fire P (instance_in values trails (row_of row.now)) number }
 {
     !has_fired(row, number) && inputs_of(row, bx).is_some()
@@ -91,7 +96,8 @@ pub(crate) fn can_fire(row: &Row, bx: &BoxRow, number: usize) -> bool
 
 /// It can, and the instance hasn't ended.
 pub(crate) fn is_box_ready(row: &Row, bx: &BoxRow, number: usize) -> bool
-    ensures { (P : Program) (values : List Value) (trails : List Trail) → box_at P row.now.kind number ≡ Some (box_of bx.now)
+    ensures { (P : Program) (values : List Value) (trails : List Trail) →
+        box_at P row.now.kind number ≡ Some (box_of bx.now)
         → result ≡ (steps.is_live (instance_in values trails (row_of row.now))
         && steps.can_fire P (instance_in values trails (row_of row.now)) number) }
 {

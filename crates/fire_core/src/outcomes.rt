@@ -52,7 +52,9 @@ pub(crate) fn outcome_of(
 
 /// An instance that is stuck by itself.
 fn ended_at(trails: &mut TrailStore, site: Site) -> Result<Outcome, Memory>
-    ensures outcome { (values : List Value) → IfOk result (λ outcome. outcome_in values (trails_of trails.new) outcome ≡ mean.Stuck (trail_of site)) }
+    ensures outcome { (values : List Value) →
+        IfOk result (λ outcome. outcome_in values (trails_of trails.new) outcome
+        ≡ mean.Stuck (trail_of site)) }
     ensures fits { (n : ℕ) → IfOk result (λ outcome. OutcomeFits n (length trails.new) (Some outcome)) }
     ensures keeps { KeepsTrails trails.old trails.new }
 {
@@ -63,7 +65,8 @@ fn ended_at(trails: &mut TrailStore, site: Site) -> Result<Outcome, Memory>
 /// The trail of the first stuck box.
 fn first_stuck(row: &Row) -> Option<usize>
     ensures trail { (values : List Value) (trails : List Trail) → option_map (trail_in trails) result
-        ≡ mean.first_below (length row.now.cells.items) (λ b. mean.stuck_of (steps.fired (instance_in values trails (row_of row.now)) b)) }
+        ≡ mean.first_below (length row.now.cells.items)
+        (λ b. mean.stuck_of (steps.fired (instance_in values trails (row_of row.now)) b)) }
     ensures place { (n t : ℕ) → RowFits n t (row_of row.now) → IsPlace t result }
 {
     for bx in 0..row.cells.len() {
@@ -90,7 +93,8 @@ fn stuck_box(row: &Row, bx: usize) -> Option<usize>
 /// What the exits carry.
 fn at_exits(row: &Row, exits: &[Option<Origin>]) -> Carried
     ensures carried { (values : List Value) (trails : List Trail)
-        → IsCarried values result (mean.carried_by (steps.wires (instance_in values trails (row_of row.now))) exits.now) }
+        → IsCarried values result (mean.carried_by
+        (steps.wires (instance_in values trails (row_of row.now))) exits.now) }
     ensures fits { (n t : ℕ) → RowFits n t (row_of row.now) → CarriedFits n result }
 {
     let mut found = Carried::Nothing;
@@ -114,7 +118,8 @@ fn at_exit(row: &Row, exit: Option<Origin>) -> Option<usize>
 
 /// What the exits carry with one value more, if there is one.
 fn joined(found: Carried, at: Option<usize>) -> Carried
-    ensures carried { (values carried : List Value) → IsCarried values found carried → IsCarried values result (carried ++ value_listed (option_map (value_in values) at)) }
+    ensures carried { (values carried : List Value) → IsCarried values found carried →
+        IsCarried values result (carried ++ value_listed (option_map (value_in values) at)) }
     ensures fits { (n : ℕ) → CarriedFits n found → IsPlace n at → CarriedFits n result }
 {
     match at {
@@ -136,7 +141,8 @@ pub(crate) fn returned(
     requires { TrailFits (length trails.old) outcome }
     ensures cell { (values : List Value) → IfOk result (λ cell. cell_in values (trails_of trails.new) cell
         ≡ mean.returned spot.kind spot.bx (outcome_in values (trails_of trails.old) outcome)) }
-    ensures fits { (n : ℕ) → OutcomeFits n (length trails.old) (Some outcome) → IfOk result (λ cell. CellFits n (length trails.new) (Some cell)) }
+    ensures fits { (n : ℕ) → OutcomeFits n (length trails.old) (Some outcome) →
+        IfOk result (λ cell. CellFits n (length trails.new) (Some cell)) }
     ensures keeps { KeepsTrails trails.old trails.new }
 {
     match outcome {

@@ -25,7 +25,8 @@ pub(crate) fn add_ready(
 ) -> Result<(), Memory>
     requires { length boxes.now < 2 ^ 32 }
     ensures added { (P : Program) (T : Table) (values : List Value) (trails : List Trail)
-        → instance_at T number ≡ instance_in values trails (row_of row.now) → (module_at P row.now.kind).boxes ≡ map box_of boxes.now
+        → instance_at T number ≡ instance_in values trails (row_of row.now) →
+        (module_at P row.now.kind).boxes ≡ map box_of boxes.now
         → row.now.inner ≡ inner_count number T
         → OnOk result (events_shown events.new.items ≡ events_shown events.old.items ++ ready_of P T number) }
 {
@@ -52,7 +53,8 @@ fn add_fires(
     events: &mut Vec<Event>,
 ) -> Result<(), Memory>
     requires { length boxes.now < 2 ^ 32 }
-    ensures added { (P : Program) (values : List Value) (trails : List Trail) → (module_at P row.now.kind).boxes ≡ map box_of boxes.now
+    ensures added { (P : Program) (values : List Value) (trails : List Trail) →
+        (module_at P row.now.kind).boxes ≡ map box_of boxes.now
         → OnOk result (events_shown events.new.items ≡ events_shown events.old.items
         ++ fires_of P (instance_in values trails (row_of row.now)) number (length boxes.now)) }
 {
@@ -70,7 +72,8 @@ fn add_fire(
     place: u32,
     events: &mut Vec<Event>,
 ) -> Result<(), Memory>
-    ensures added { (P : Program) (values : List Value) (trails : List Trail) → box_at P row.now.kind place ≡ Some (box_of bx.now)
+    ensures added { (P : Program) (values : List Value) (trails : List Trail) →
+        box_at P row.now.kind place ≡ Some (box_of bx.now)
         → OnOk result (events_shown events.new.items ≡ events_shown events.old.items
         ++ fire_of P (instance_in values trails (row_of row.now)) number place) }
 {

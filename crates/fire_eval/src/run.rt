@@ -27,10 +27,14 @@ pub fn eval(
     requires { budget ≤ 2 ^ 62 }
     ensures has_picks { IfOk result (λ report. HasPicks picks.now) }
     ensures empty { result ≡ Err EvalFault.EmptyPicks → HasPicks picks.now → ⊥ }
-    ensures log { IfOk result (λ report. events_shown report.log.items ≡ steps.events_of program.now (choice_of picks.now) budget) }
-    ensures outcome { IfOk result (λ report. option_map (outcome_in (values_of report.values) (trails_of report.trails)) report.outcome
-        ≡ (steps.instance_at (steps.after program.now (steps.start program.now) (events_shown report.log.items)) 0).outcome) }
-    ensures places { IfOk result (λ report. IfSome report.outcome (IsPlaceIn (length report.values) (length report.trails))) }
+    ensures log { IfOk result (λ report. events_shown report.log.items
+        ≡ steps.events_of program.now (choice_of picks.now) budget) }
+    ensures outcome { IfOk result (λ report.
+        option_map (outcome_in (values_of report.values) (trails_of report.trails)) report.outcome
+        ≡ (steps.instance_at (steps.after program.now (steps.start program.now)
+        (events_shown report.log.items)) 0).outcome) }
+    ensures places { IfOk result (λ report.
+        IfSome report.outcome (IsPlaceIn (length report.values) (length report.trails))) }
     ensures events { IfOk result (λ report. report.events ≡ length report.log.items) }
     ensures firings { IfOk result (λ report. report.firings ≡ steps.fires_in (events_shown report.log.items)) }
     ensures instances { IfOk result (λ report. report.instances
@@ -49,7 +53,8 @@ pub fn eval(
 
     // Its trail is of the program, as `text` asks.
     ensures of_program { IfOk result (λ report. (o : Outcome)
-        → option_map (outcome_in (values_of report.values) (trails_of report.trails)) report.outcome ≡ Some o → IsOutcomeOf program.now o) }
+        → option_map (outcome_in (values_of report.values) (trails_of report.trails)) report.outcome
+        ≡ Some o → IsOutcomeOf program.now o) }
 {
     if !picks.serves() {
         return Err(EvalFault::EmptyPicks);
@@ -108,7 +113,8 @@ fn run(
     requires start { core.old.table ≡ steps.start program.now }
     requires empty { log.old.items ≡ [] }
     ensures log { OnOk result (events_shown log.new.items ≡ steps.events_of program.now (choice_of picks.now) budget) }
-    ensures table { OnOk result (core.new.table ≡ steps.after program.now (steps.start program.now) (events_shown log.new.items)) }
+    ensures table { OnOk result (core.new.table
+        ≡ steps.after program.now (steps.start program.now) (events_shown log.new.items)) }
 {
     for made in 0..budget {
         if core.outcome().is_some() {

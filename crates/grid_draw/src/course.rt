@@ -1,7 +1,7 @@
 //! The ways of wires over a module's drawing.
 
 ghost use Rattle.std.specs.Prelude.{◌≡◌, ◌+◌, ◌++◌, ◌∷◌, ◌≤◌, ◌<◌, ◌^◌, ◌==◌};
-ghost use Rattle.std.specs.Prelude.{◌&&◌, [], IfOk, OnOk, Some, ℕ, length, slice_get};
+ghost use Rattle.std.specs.Prelude.{◌&&◌, [], IfOk, OnOk, Some, ℕ, slice_get};
 ghost use Rattle.two_d.specs.Places.{at};
 ghost use Rattle.grid_picture.specs.Courses.{along, has_cell};
 ghost use Rattle.grid_draw.specs.Layout as layouts;

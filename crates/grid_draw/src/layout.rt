@@ -1,10 +1,10 @@
 //! The numbers of a module's drawing.
 
 ghost use Rattle.std.specs.Prelude.{◌≡◌, ◌+◌, ◌*◌, ◌<◌, ◌≤◌, ◌∷◌};
-ghost use Rattle.std.specs.Prelude.{◌++◌, [], All, IfOk, OnOk, length, map};
+ghost use Rattle.std.specs.Prelude.{◌++◌, [], IfOk, OnOk, length, map};
 ghost use Rattle.two_d.specs.Programs.{box_of, module_of};
 ghost use Rattle.grid_draw.specs.Layout as layouts;
-ghost use Rattle.grid_draw.specs.Layout.{box_wires, exit_wires, reach_over, wire_to};
+ghost use Rattle.grid_draw.specs.Layout.{box_wires, exit_wires, wire_to};
 ghost use Rattle.grid_draw.specs.inner.Layouts.{IsEndOf, IsFit, IsLayout, module_in, wire_of};
 ghost use Rattle.grid_draw.specs.inner.Sizes.{size_of};
 

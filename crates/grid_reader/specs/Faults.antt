@@ -3,7 +3,10 @@ use Rattle.std.specs.Prelude.{Option, Some, None}
 use Rattle.two_d.specs.Faults as fault
 use Rattle.two_d.specs.Faults.{TextFault}
 use Rattle.grid_reader.specs.declared.fault.GridFault.{GridFault}
-use Rattle.grid_reader.specs.declared.fault.GridFault.TheVariants.{TooLong, BadByte, LineTooLong, OpenFrame, FramesMeet, TwoEntries, NoName, OpenBox, BoxesMeet, Memory}
+use Rattle.grid_reader.specs.declared.fault.GridFault.TheVariants.{TooLong, BadByte, LineTooLong}
+use Rattle.grid_reader.specs.declared.fault.GridFault.TheVariants.{OpenFrame, FramesMeet}
+use Rattle.grid_reader.specs.declared.fault.GridFault.TheVariants.{TwoEntries, NoName, OpenBox}
+use Rattle.grid_reader.specs.declared.fault.GridFault.TheVariants.{BoxesMeet, Memory}
 
 -- the fault of a grid that a refusal tells; want of memory is none
 abbrev pub fault_of : GridFault → Option TextFault

@@ -1,8 +1,8 @@
-ghost use Rattle.std.specs.Prelude.{◌≡◌, ℕ, ◌+◌, ◌≤◌, ◌<◌, ◌^◌, ◌++◌, ◌↔◌, ◌≢◌, IsTrue, MatchOption, IfOk, OnOk, IfSome, map, All};
+ghost use Rattle.std.specs.Prelude.{◌≡◌, ◌+◌, ◌≤◌, ◌<◌, ◌^◌, ◌++◌, ◌↔◌, ◌≢◌, IsTrue, IfOk, OnOk};
+ghost use Rattle.std.specs.Prelude.{IfSome, All};
 ghost use Rattle.two_d.specs.Cells.{cell};
 ghost use Rattle.two_d.specs.Frames.{InRow, InColumn};
 ghost use Rattle.two_d.specs.Boxes.{IsBoxCorner, IsBox, boxes_of};
-ghost use Rattle.two_d.specs.Places as places;
 ghost use Rattle.two_d.specs.Places.{at};
 ghost use Rattle.two_d.specs.Reading.{Gives};
 ghost use Rattle.grid_reader.specs.Faults.{fault_of};

@@ -1,6 +1,7 @@
-ghost use Rattle.std.specs.Prelude.{◌≡◌, ℕ, ◌≤◌, ◌<◌, ◌++◌, ◌∷◌, [], ◌↔◌, IsTrue, OnOk, MatchOption, Some, None, option_map, slice_index_or, ◌⊎◌, ◌+◌, ◌^◌};
+ghost use Rattle.std.specs.Prelude.{◌≡◌, ◌≤◌, ◌<◌, ◌++◌, ◌∷◌, [], ◌↔◌, IsTrue, OnOk, MatchOption};
+ghost use Rattle.std.specs.Prelude.{Some, None, option_map, ◌⊎◌, ◌+◌, ◌^◌};
 ghost use Rattle.two_d.specs.Places.{Within};
-ghost use Rattle.grid_reader.specs.inner.Rects.{rect_shown, plains};
+ghost use Rattle.grid_reader.specs.inner.Rects.{rect_shown};
 ghost use Rattle.grid_reader.specs.inner.Found.{figures, lowest, HasLow, LaysIn, IsInside, AgreeOutside};
 
 use crate::rect::Rect;

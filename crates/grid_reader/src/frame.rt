@@ -1,9 +1,9 @@
-ghost use Rattle.std.specs.Prelude.{◌≡◌, ℕ, ◌+◌, ◌-◌, ◌≤◌, ◌<◌, ◌^◌, ◌==◌, IsTrue, ◌↔◌, MatchOption, IfOk, IfSome, filter, slice_get, map, All, Ok};
-ghost use Rattle.std.specs.List.{range_with_len};
+ghost use Rattle.std.specs.Prelude.{◌≡◌, ◌+◌, ◌-◌, ◌≤◌, ◌<◌, ◌^◌, ◌==◌, IsTrue, ◌↔◌, IfOk, IfSome};
+ghost use Rattle.std.specs.Prelude.{filter, slice_get, All, Ok};
 ghost use Rattle.two_d.specs.Cells.{cell};
-ghost use Rattle.two_d.specs.Frames.{IsTopByte, IsSideByte, IsCorner, IsFrame, InRow, InColumn, frames_of, columns_with, rows_with, one_entry_a_side};
-ghost use Rattle.two_d.specs.Places as places;
-ghost use Rattle.two_d.specs.Places.{at, corner_of, inner_columns, inner_rows};
+ghost use Rattle.two_d.specs.Frames.{IsTopByte, IsSideByte, IsCorner, IsFrame, InRow, InColumn};
+ghost use Rattle.two_d.specs.Frames.{frames_of, columns_with, rows_with, one_entry_a_side};
+ghost use Rattle.two_d.specs.Places.{at, corner_of};
 ghost use Rattle.two_d.specs.Reading.{Gives};
 ghost use Rattle.grid_reader.specs.Faults.{fault_of};
 ghost use Rattle.grid_reader.specs.Frames.{rect_of, rects_of, IsFrameOf};
@@ -40,7 +40,8 @@ pub struct Frame {
 pub fn frames(alloc: Global, grid: &Grid) -> Result<Vec<Frame>, GridFault>
     ensures read { Gives rects_of fault_of result (frames_of grid.now) }
     ensures shown { IfOk result (λ frames. All (IsFrameOf grid.now) frames.items) }
-    ensures entries { IfOk result (λ frames. All (λ frame. one_entry_a_side grid.now (rect_of frame) (Ok tt)) frames.items) }
+    ensures entries { IfOk result (λ frames.
+        All (λ frame. one_entry_a_side grid.now (rect_of frame) (Ok tt)) frames.items) }
 {
     let rects = find(alloc, &GridFrames { grid })?;
     let mut frames = Vec::new(alloc);

@@ -1,4 +1,5 @@
-ghost use Rattle.std.specs.Prelude.{◌≡◌, ℕ, ◌≤◌, ◌<◌, ◌^◌, List, IfOk, IfSome, IfNone, length, map, IsTrue, ◌↔◌, ◌+◌, vec_len, slice_index_or, [], ◌∷◌};
+ghost use Rattle.std.specs.Prelude.{◌≡◌, ℕ, ◌≤◌, ◌<◌, ◌^◌, List, IfOk, IfSome, IfNone, length};
+ghost use Rattle.std.specs.Prelude.{IsTrue, ◌↔◌, ◌+◌, vec_len, slice_index_or, [], ◌∷◌};
 ghost use Rattle.std.specs.Str.{IsAscii};
 ghost use Rattle.std.specs.Str.Lines.{lines};
 ghost use Rattle.two_d.specs.Cells.{cell, grid_of, place_at, MayStand, IsBadByte, IsTooLong};

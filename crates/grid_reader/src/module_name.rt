@@ -1,8 +1,7 @@
-ghost use Rattle.std.specs.Prelude.{◌≡◌, ℕ, ◌+◌, ◌≤◌, ◌<◌, ◌↔◌, IsTrue, All, IfOk, length, slice_index, ◌^◌, ◌⊎◌};
+ghost use Rattle.std.specs.Prelude.{◌≡◌, ◌+◌, ◌≤◌, ◌<◌, ◌↔◌, IsTrue, All, IfOk, ◌^◌, ◌⊎◌};
 ghost use Rattle.two_d.specs.Cells.{cell};
 ghost use Rattle.two_d.specs.Frames.{name_of, IsWritten};
 ghost use Rattle.two_d.specs.Names.{IsNameByte};
-ghost use Rattle.two_d.specs.Places.{at};
 ghost use Rattle.two_d.specs.Reading.{Gives};
 ghost use Rattle.grid_reader.specs.Faults.{fault_of};
 ghost use Rattle.grid_reader.specs.Frames.{rect_of, IsFrameOf, StopsBefore};

@@ -1,6 +1,6 @@
-ghost use Rattle.std.specs.Prelude.{◌≡◌, ◌≤◌, ◌<◌, ◌+◌, ◌^◌, ◌↔◌, IsTrue, OnOk, IfOk, IfErr, IfSome, MatchOption, ⊤, Err, All, Some};
+ghost use Rattle.std.specs.Prelude.{◌≡◌, ◌≤◌, ◌<◌, ◌+◌, ◌^◌, ◌↔◌, IsTrue, OnOk, IfOk, IfErr};
+ghost use Rattle.std.specs.Prelude.{IfSome, Err, Some};
 ghost use Rattle.umix_base.specs.declared.place.Place.{Place};
-ghost use Rattle.two_d.specs.Places as places;
 ghost use Rattle.two_d.specs.Places.{at, corner_of};
 ghost use Rattle.two_d.specs.Reading.{Gives, Refuses};
 ghost use Rattle.two_d.proofs.LiveCorners.{IsSearchable};

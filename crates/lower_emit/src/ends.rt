@@ -1,7 +1,7 @@
-ghost use Rattle.std.specs.Prelude.{◌≡◌, ◌<◌, ◌^◌, All, IfSome, OnOk};
+ghost use Rattle.std.specs.Prelude.{◌≡◌, ◌<◌, ◌^◌, IfSome, OnOk};
 ghost use Rattle.lower_emit.specs.inner.Codes.{AddsOps, layout_in, HasPlaces, AreWithin};
 ghost use Rattle.lower_emit.specs.Blocks.{read_exit, read_exits, no_result_code, two_results_code};
-ghost use Rattle.lower_emit.specs.Blocks.{marks_code, end_value_code, end_code};
+ghost use Rattle.lower_emit.specs.Blocks.{marks_code, end_code};
 
 use crate::code::{Code, ZERO};
 use crate::places::Places;

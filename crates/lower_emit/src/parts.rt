@@ -1,6 +1,6 @@
 //! How much a module weighs, and how large its frame is.
 
-ghost use Rattle.std.specs.Prelude.{◌≡◌, ◌-◌, ◌^◌, min, map, IfOk};
+ghost use Rattle.std.specs.Prelude.{◌≡◌, ◌-◌, ◌^◌, min, IfOk};
 ghost use Rattle.two_d.specs.Programs.{box_of, module_of};
 ghost use Rattle.two_d.specs.Trees.{tree_of};
 ghost use Rattle.two_d.specs.Weights as weight;

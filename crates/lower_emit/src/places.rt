@@ -1,6 +1,5 @@
 ghost use Rattle.std.specs.Prelude.{◌≡◌, ◌+◌, ◌<◌, ◌^◌, IfSome};
 ghost use Rattle.lower_emit.specs.Layouts.{side_slot, input_slot, stuck_slot, temporary};
-ghost use Rattle.lower_emit.specs.Layouts.{first_node};
 ghost use Rattle.lower_emit.specs.inner.Codes.{layout_in, HasPlaces};
 
 /// Where things stand in a frame: how many wires there are, and how many boxes.

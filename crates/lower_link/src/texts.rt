@@ -1,10 +1,9 @@
-ghost use Rattle.std.specs.Prelude.{◌≡◌, ◌+◌, ◌*◌, ◌<◌, ◌≤◌, [], ◌∷◌, ◌++◌, All, Some, length};
+ghost use Rattle.std.specs.Prelude.{◌≡◌, ◌+◌, ◌*◌, ◌<◌, ◌≤◌, [], ◌∷◌, ◌++◌, Some, length};
 ghost use Rattle.std.specs.Prelude.{codes, decimal, IfOk, OnOk};
 ghost use Rattle.two_d.specs.Programs.{BoxForm, box_at};
 ghost use Rattle.two_d.specs.Texts.{name_at, HasBox};
-ghost use Rattle.two_d.specs.Weights.{weight};
 ghost use Rattle.lower_link.specs.inner.Drafts.{AddsTexts, AreTextsOf};
-ghost use Rattle.lower_link.specs.inner.Lines.{box_line, end_lines, module_lines};
+ghost use Rattle.lower_link.specs.inner.Lines.{box_line, module_lines};
 
 use crate::draft::Draft;
 use itoa::Buffer;

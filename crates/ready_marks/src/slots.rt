@@ -1,4 +1,5 @@
-ghost use Rattle.std.specs.Prelude.{◌≡◌, ◌<◌, ◌≤◌, ◌+◌, ◌^◌, ℕ, [], ◌∷◌, not, Some, length, slice_get, slice_set, IfOk, OnOk};
+ghost use Rattle.std.specs.Prelude.{◌≡◌, ◌<◌, ◌≤◌, ◌+◌, ◌^◌, ℕ, [], ◌∷◌, not, Some, length};
+ghost use Rattle.std.specs.Prelude.{slice_get, slice_set, IfOk, OnOk};
 ghost use Rattle.mark_list.specs.Marks.{at, is_marked};
 ghost use Rattle.two_d.specs.Meaning.{all_below};
 ghost use Rattle.two_d.specs.Programs.{Program};
@@ -47,8 +48,10 @@ impl Slots {
     /// The ready event at a place of their list, of so many instances: its instance, and its box or no
     /// box for an end. Time by the logarithm of how far the instance is from the last, beside `place` of the marks.
     pub fn event(&self, instances: usize, k: usize) -> (usize, Option<usize>)
-        requires { (P : Program) × (T : Table) × AreReady P T self.now × (length T ≡ instances) × (k < length (ready P T)) }
-        ensures { (P : Program) (T : Table) → AreReady P T self.now → length T ≡ instances → k < length (ready P T) → slice_get (ready P T) k ≡ Some (spot_event result) }
+        requires { (P : Program) × (T : Table) × AreReady P T self.now × (length T ≡ instances) ×
+            (k < length (ready P T)) }
+        ensures { (P : Program) (T : Table) → AreReady P T self.now → length T ≡ instances →
+            k < length (ready P T) → slice_get (ready P T) k ≡ Some (spot_event result) }
     {
         let place = self.marks.place(k);
         let number = self.instance_of(place, instances);
@@ -116,7 +119,8 @@ impl Slots {
         ensures longer { length self.old.starts ≤ length self.new.starts }
         ensures marks { (s : ℕ) → is_marked self.new.marks s ≡ is_marked self.old.marks s }
         ensures reach { length self.old.marks ≤ length self.new.marks }
-        ensures ok { OnOk result ((instances + 1 < length self.new.starts) × (at self.new.starts instances + boxes + 1 ≤ length self.new.marks)) }
+        ensures ok { OnOk result ((instances + 1 < length self.new.starts) ×
+            (at self.new.starts instances + boxes + 1 ≤ length self.new.marks)) }
     {
         if self.starts.len() < instances + 2 {
             self.starts.push(0)?;
@@ -131,7 +135,8 @@ impl Slots {
     pub fn begin(&mut self, number: usize, boxes: usize)
         requires there { number + 1 < length self.old.starts }
         requires within { at self.old.starts number + boxes + 1 ≤ length self.old.marks }
-        ensures starts { self.new.starts ≡ slice_set self.old.starts (number + 1) (at self.old.starts number + boxes + 1) }
+        ensures starts { self.new.starts
+            ≡ slice_set self.old.starts (number + 1) (at self.old.starts number + boxes + 1) }
         ensures marks { self.new.marks ≡ self.old.marks }
     {
         let _size = self.marks.len();

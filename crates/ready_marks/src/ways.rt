@@ -1,6 +1,7 @@
 //! Where the wires of a module lead to: the way back from what `Origin` tells.
 
-ghost use Rattle.std.specs.Prelude.{◌≡◌, ◌<◌, ◌≤◌, ◌⊎◌, ℕ, List, Option, Some, None, IfOk, length, map, slice_index_or};
+ghost use Rattle.std.specs.Prelude.{◌≡◌, ◌<◌, ◌≤◌, ◌⊎◌, ℕ, Option, Some, None, IfOk, length};
+ghost use Rattle.std.specs.Prelude.{slice_index_or};
 ghost use Rattle.two_d.specs.Programs.{module_of};
 ghost use Rattle.two_d.specs.Sound.{IsSound};
 ghost use Rattle.ready_marks.specs.Ways.{AreWaysOf, ways_form};

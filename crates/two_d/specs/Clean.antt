@@ -1,5 +1,6 @@
 -- The wires of a module, or the first of faults 11 to 15 (docs/GRID.md, "Wires").
-use Rattle.std.specs.Prelude.{◌≡◌, ◌-◌, ◌↔◌, List, [], ◌∷◌, ◌++◌, length, drop, slice_get, Some, Contains, Any, AllPairs}
+use Rattle.std.specs.Prelude.{◌≡◌, ◌-◌, ◌↔◌, List, [], ◌∷◌, ◌++◌, length, drop, slice_get, Some}
+use Rattle.std.specs.Prelude.{Contains, Any, AllPairs}
 use Rattle.std.specs.Str.{byte}
 use Rattle.umix_base.specs.declared.place.Place.{Place}
 use Rattle.two_d.specs.Places.{Before, IsFirstPlace, IsSecondPlace, Rect, Within, Covers}

@@ -1,5 +1,6 @@
 -- Good programs.
-use Rattle.std.specs.Prelude.{◌≡◌, ◌≢◌, ℕ, ◌<◌, ◌^◌, ◌⊎◌, ◌↔◌, false, IsTrue, List, [], ◌∷◌, length, map, slice_get, Some, All, AllPairs, Any, IsSome, IsNone, Vec}
+use Rattle.std.specs.Prelude.{◌≡◌, ◌≢◌, ℕ, ◌<◌, ◌^◌, ◌⊎◌, ◌↔◌, false, IsTrue, List, [], ◌∷◌, length}
+use Rattle.std.specs.Prelude.{map, slice_get, Some, All, AllPairs, Any, IsSome, IsNone, Vec}
 use Rattle.std.specs.Global.{Global}
 use Rattle.two_d.specs.Programs.{BoxForm, ModuleForm, Program, find, main_of, module_at}
 use Rattle.two_d.specs.Sound.{IsSound, Reaches, IsKeptOrder}
@@ -12,7 +13,8 @@ HasInputsOf row m = (IsTrue m.north ↔ IsSome row.n) × (IsTrue m.west ↔ IsSo
 
 -- a box that uses a module: it is there, and has just the entries that are wired
 abbrev pub UsesWell : Program → BoxForm → Type 0
-UsesWell P row = (name : List ℕ) → row.command ≡ call name → (find P name < length P) × HasInputsOf row (module_at P (find P name))
+UsesWell P row = (name : List ℕ) → row.command ≡ call name → (find P name < length P) ×
+    HasInputsOf row (module_at P (find P name))
 
 -- the expression names N
 abbrev pub NamesN : Tree → Type 0

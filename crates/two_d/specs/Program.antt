@@ -1,5 +1,6 @@
 -- The program of a text, or its first fault (docs/GRID.md, "Faults").
-use Rattle.std.specs.Prelude.{◌≡◌, ℕ, ◌↔◌, List, [], length, map, slice_get, slice_index_or, is_some, Contains, Result, Ok, Err}
+use Rattle.std.specs.Prelude.{◌≡◌, ℕ, ◌↔◌, List, [], length, map, slice_get, slice_index_or}
+use Rattle.std.specs.Prelude.{is_some, Contains, Result, Ok, Err}
 use Rattle.umix_base.specs.declared.place.Place.{Place}
 use Rattle.two_d.specs.Places.{Rect, corner_of}
 use Rattle.two_d.specs.Faults.{TextFault, bad_command, too_deep}

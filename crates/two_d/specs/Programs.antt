@@ -1,5 +1,6 @@
 -- Programs as plain trees and lists.
-use Rattle.std.specs.Prelude.{Option, ℕ, List, [], ◌∷◌, Bool, true, false, ◌&&◌, ◌==◌, slice_get, slice_index_or, length, map, codes}
+use Rattle.std.specs.Prelude.{Option, ℕ, List, [], ◌∷◌, Bool, true, false, ◌&&◌, ◌==◌, slice_get}
+use Rattle.std.specs.Prelude.{slice_index_or, length, map, codes}
 use Rattle.std.specs.List.{position_or_len}
 use Rattle.two_d.specs.Trees.{Form, form_of}
 use Rattle.two_d.specs.declared.module.BoxRow.{BoxRow}
@@ -31,7 +32,13 @@ box_of row = record { command = form_of row.command; n = row.n; w = row.w }
 
 -- a module without the places of its parts in memory
 abbrev pub module_of : Module → ModuleForm
-module_of m = record { name = m.name; north = m.north; west = m.west; boxes = map box_of m.boxes.items; exits = m.exits.items }
+module_of m = record {
+  name = m.name;
+  north = m.north;
+  west = m.west;
+  boxes = map box_of m.boxes.items;
+  exits = m.exits.items;
+}
 
 -- modules without the places of their parts in memory
 abbrev pub modules_of : List Module → Program

@@ -52,7 +52,8 @@ pub record IsOrder (m : ModuleForm) (order : List ℕ) : Type 0 where
 
 -- xs isn't above ys in the order of lists of numbers: the first difference decides
 abbrev pub IsNotAbove : List ℕ → List ℕ → Type 0
-IsNotAbove xs ys = (xs ≡ ys) ⊎ ((i x y : ℕ) × (slice_get xs i ≡ Some x) × (slice_get ys i ≡ Some y) × (x < y) × ((j : ℕ) → j < i → slice_get xs j ≡ slice_get ys j))
+IsNotAbove xs ys = (xs ≡ ys) ⊎ ((i x y : ℕ) × (slice_get xs i ≡ Some x) ×
+    (slice_get ys i ≡ Some y) × (x < y) × ((j : ℕ) → j < i → slice_get xs j ≡ slice_get ys j))
 
 -- the least order
 pub record IsKeptOrder (m : ModuleForm) (order : List ℕ) : Type 0 where

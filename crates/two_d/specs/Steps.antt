@@ -1,10 +1,15 @@
 -- Instance tables, and the events that change them.
-use Rattle.std.specs.Prelude.{Option, Some, None, ◌≡◌, ℕ, zero, suc, List, [], ◌∷◌, ◌++◌, Bool, false, not, ◌&&◌, ◌==◌, ◌-◌, ◌%◌, if◌then◌else◌, slice_get, slice_index, is_some, IsTrue, length, replicate, slice_index_or, slice_set}
+use Rattle.std.specs.Prelude.{Option, Some, None, ◌≡◌, ℕ, zero, suc, List, [], ◌∷◌, ◌++◌, Bool}
+use Rattle.std.specs.Prelude.{false, not, ◌&&◌, ◌==◌, ◌-◌, ◌%◌, if◌then◌else◌, slice_get}
+use Rattle.std.specs.Prelude.{slice_index, is_some, IsTrue, length, replicate, slice_index_or}
+use Rattle.std.specs.Prelude.{slice_set}
 use Rattle.std.specs.List.{filter}
 use Rattle.codex_values.specs.Value.{Value}
 use Rattle.two_d.specs.Programs.{Origin, Program, main_of, box_count}
 use Rattle.two_d.specs.Trails.{trail_of, NoResult}
-use Rattle.two_d.specs.Meaning.{Inputs, no_inputs, Meaning, mean, Outcome, Stuck, Cell, Cells, quiet, returned, Effect, Done, Starts, act, look_in, outcome_of, all_below}
+use Rattle.two_d.specs.Meaning.{Inputs, no_inputs, Meaning, mean, Outcome, Stuck, Cell, Cells}
+use Rattle.two_d.specs.Meaning.{quiet, returned, Effect, Done, Starts, act, look_in, outcome_of}
+use Rattle.two_d.specs.Meaning.{all_below}
 
 pub data Event : Type 0 where
   Fire : ℕ → ℕ → Event

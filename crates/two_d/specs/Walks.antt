@@ -1,5 +1,6 @@
 -- The calls and returns of a program, depth first.
-use Rattle.std.specs.Prelude.{◌≡◌, Option, Some, None, ℕ, zero, suc, List, [], ◌∷◌, ◌++◌, Bool, true, false, if◌then◌else◌, is_some, map}
+use Rattle.std.specs.Prelude.{◌≡◌, Option, Some, None, ℕ, zero, suc, List, [], ◌∷◌, ◌++◌, Bool}
+use Rattle.std.specs.Prelude.{true, false, if◌then◌else◌, is_some, map}
 use Rattle.two_d.specs.Programs.{Program, main_of, module_at}
 use Rattle.two_d.specs.Sound.{IsOrder, IsKeptOrder}
 use Rattle.two_d.specs.Meaning.{Inputs, no_inputs, Effect, Done, Starts, Answers, act, look_of, mean}
@@ -39,7 +40,8 @@ abbrev pub load_of : (ℕ → List ℕ) → Visit → List ℕ × Bool
 load_of blocks (Calls m) = (blocks m, true)
 load_of blocks (Returns m) = (blocks m, false)
 
--- what is loaded on the way: the blocks of the walk from `main`, and the printer's block where the program means something
+-- what is loaded on the way: the blocks of the walk from `main`, and the printer's block where the
+-- program means something
 abbrev pub route : Program → (ℕ → List ℕ) → (ℕ → List ℕ) → List ℕ → ℕ → List (List ℕ × Bool)
 route P order blocks printer n =
     map (load_of blocks) (walk P order n (main_of P) no_inputs)

@@ -40,8 +40,10 @@ pub fn written_within()
 pub fn one_answer()
     ensures grid { (text : List ℕ) (r s : Result Grid TextFault) → grid_of text r → grid_of text s → r ≡ s }
     ensures frames { (grid : Grid) (r s : Result (List Rect) TextFault) → frames_of grid r → frames_of grid s → r ≡ s }
-    ensures name { (grid : Grid) (f : Rect) (r s : Result (List ℕ) TextFault) → name_of grid f r → name_of grid f s → r ≡ s }
-    ensures boxes { (grid : Grid) (f : Rect) (r s : Result (List Rect) TextFault) → boxes_of grid f r → boxes_of grid f s → r ≡ s }
+    ensures name { (grid : Grid) (f : Rect) (r s : Result (List ℕ) TextFault) → name_of grid f r →
+        name_of grid f s → r ≡ s }
+    ensures boxes { (grid : Grid) (f : Rect) (r s : Result (List Rect) TextFault) →
+        boxes_of grid f r → boxes_of grid f s → r ≡ s }
     ensures some_grid { (text : List ℕ) → (r : Result Grid TextFault) × grid_of text r }
     ensures some_frames { (grid : Grid) → (r : Result (List Rect) TextFault) × frames_of grid r }
     ensures some_name { (grid : Grid) (f : Rect) → (r : Result (List ℕ) TextFault) × name_of grid f r }
@@ -52,13 +54,15 @@ pub fn one_answer()
 /// read in it, it has one of these alone.
 pub fn each_drawing_has_one_list_of_wires()
     ensures some { (m : Drawing) → (r : Result (List WireForm) TextFault) × wires_of m r }
-    ensures one { (m : Drawing) (p : Place) (r s : Result (List WireForm) TextFault) → IsFrame m.grid p m.frame → boxes_of m.grid m.frame (Ok m.boxes)
+    ensures one { (m : Drawing) (p : Place) (r s : Result (List WireForm) TextFault) →
+        IsFrame m.grid p m.frame → boxes_of m.grid m.frame (Ok m.boxes)
         → wires_of m r → wires_of m s → r ≡ s }
 {}
 
 /// What a module means at some depth, it means at every greater depth.
 pub fn depth_is_enough()
-    ensures { (P : Program) (n d m : ℕ) (a : Inputs) (r : Meaning) → mean P n m a ≡ Some r → mean P (d + n) m a ≡ Some r }
+    ensures { (P : Program) (n d m : ℕ) (a : Inputs) (r : Meaning) → mean P n m a ≡ Some r →
+        mean P (d + n) m a ≡ Some r }
 {}
 
 /// In a module whose boxes have an order, what comes from a box is what the box gives, by the values at
@@ -74,14 +78,18 @@ pub fn routes_go_on()
     ensures long { (P : Program) (order blocks : ℕ → List ℕ) (printer : List ℕ) (n : ℕ) → AreOrders P order
         → mean P n (main_of P) no_inputs ≡ None → n ≤ length (route P order blocks printer n) }
     ensures begins { (P : Program) (order blocks : ℕ → List ℕ) (printer : List ℕ) (n d : ℕ) → AreOrders P order
-        → mean P n (main_of P) no_inputs ≡ None → IsPrefixOf (route P order blocks printer n) (route P order blocks printer (d + n)) }
-    ensures stays { (P : Program) (order blocks : ℕ → List ℕ) (printer : List ℕ) (n d : ℕ) (r : Meaning) → AreOrders P order
-        → mean P n (main_of P) no_inputs ≡ Some r → route P order blocks printer (d + n) ≡ route P order blocks printer n }
+        → mean P n (main_of P) no_inputs ≡ None →
+        IsPrefixOf (route P order blocks printer n) (route P order blocks printer (d + n)) }
+    ensures stays { (P : Program) (order blocks : ℕ → List ℕ) (printer : List ℕ) (n d : ℕ)
+        (r : Meaning) → AreOrders P order
+        → mean P n (main_of P) no_inputs ≡ Some r → route P order blocks printer (d + n)
+        ≡ route P order blocks printer n }
 {}
 
 /// A sound module has a kept order where no box reaches itself, and only there. It never has two.
 pub fn kept_order_of_a_module()
-    ensures acyclic { (m : ModuleForm) → IsSound m → (((b : ℕ) → Reaches m b b → ⊥) ↔ ((order : List ℕ) × IsKeptOrder m order)) }
+    ensures acyclic { (m : ModuleForm) → IsSound m →
+        (((b : ℕ) → Reaches m b b → ⊥) ↔ ((order : List ℕ) × IsKeptOrder m order)) }
     ensures once { (m : ModuleForm) (xs ys : List ℕ) → IsKeptOrder m xs → IsKeptOrder m ys → xs ≡ ys }
 {}
 
@@ -91,7 +99,8 @@ pub fn one_route()
     ensures some { (P : Program) → IsGood P → (order : ℕ → List ℕ) × AreKeptOrders P order }
     ensures past { (P : Program) (m : ℕ) → length P ≤ m → IsKeptOrder (module_at P m) [] }
     ensures valid { (P : Program) (order : ℕ → List ℕ) → AreKeptOrders P order → AreOrders P order }
-    ensures same { (P : Program) (order other blocks : ℕ → List ℕ) (printer : List ℕ) (n : ℕ) → AreKeptOrders P order → AreKeptOrders P other
+    ensures same { (P : Program) (order other blocks : ℕ → List ℕ) (printer : List ℕ) (n : ℕ) →
+        AreKeptOrders P order → AreKeptOrders P other
         → route P order blocks printer n ≡ route P other blocks printer n }
 {}
 
@@ -108,7 +117,8 @@ pub fn outcome_of_program()
 
 /// A trail has fewer callers than its meaning takes instances.
 pub fn callers_are_few()
-    ensures { (P : Program) (n m : ℕ) (a : Inputs) (r : Meaning) (trail : Trail) → mean P n m a ≡ Some r → r.outcome ≡ Stuck trail
+    ensures { (P : Program) (n m : ℕ) (a : Inputs) (r : Meaning) (trail : Trail) → mean P n m a
+        ≡ Some r → r.outcome ≡ Stuck trail
         → length trail.callers < r.instances }
 {}
 

@@ -25,7 +25,9 @@ impl Model for Name {
 impl Name {
     /// The name of these bytes, or `None` exactly where they are no name.
     pub fn read(alloc: Global, bytes: &[u8]) -> Result<Option<Name>, Memory>
-        ensures name { IfOk result (λ found. MatchOption found (IsName bytes.now → ⊥) (λ name. (name ≡ bytes.now) × IsName bytes.now)) }
+        ensures name { IfOk result (λ found.
+            MatchOption found (IsName bytes.now → ⊥) (λ name. (name ≡ bytes.now) ×
+            IsName bytes.now)) }
     {
         let is_name = bytes.len() <= 32
             && bytes

@@ -1,7 +1,9 @@
 //! The kept order of a module's boxes.
 
-ghost use Rattle.std.specs.Prelude.{◌≡◌, ℕ, ◌+◌, ◌<◌, ◌↔◌, ◌⊎◌, IsTrue, IfOk, OnOk, IfSome, IfNone, length, replicate, slice_index_or, false, None, Some};
-ghost use Rattle.two_d.specs.inner.Orders.{Has, TakesLeast, IsFrom, IsFromBelow, AreFed, AreTargets, noted, north_at, west_at};
+ghost use Rattle.std.specs.Prelude.{◌≡◌, ℕ, ◌+◌, ◌<◌, ◌↔◌, ◌⊎◌, IsTrue, IfOk, OnOk, IfSome, IfNone};
+ghost use Rattle.std.specs.Prelude.{length, replicate, slice_index_or, false, None, Some};
+ghost use Rattle.two_d.specs.inner.Orders.{Has, TakesLeast, IsFrom, IsFromBelow, AreFed};
+ghost use Rattle.two_d.specs.inner.Orders.{AreTargets, noted, north_at, west_at};
 ghost use Rattle.two_d.specs.Programs.{module_of};
 ghost use Rattle.two_d.specs.Sound.{IsSound, Reaches, IsKeptOrder};
 
@@ -48,7 +50,9 @@ fn first_ready(
 ) -> Result<BTreeSet<usize>, AllocError>
     requires sound { IsSound (module_of module.now) }
     requires marks { length placed.now ≡ length (module_of module.now).boxes }
-    ensures { IfOk result (λ ready. (q : ℕ) → Has ready q ↔ ((q < length (module_of module.now).boxes) × AreFed (module_of module.now) placed.now q)) }
+    ensures { IfOk result (λ ready. (q : ℕ) →
+        Has ready q ↔ ((q < length (module_of module.now).boxes) ×
+        AreFed (module_of module.now) placed.now q)) }
 {
     let mut ready = BTreeSet::new(alloc);
     for number in 0..module.boxes.len() {
@@ -67,7 +71,9 @@ fn offer(
     requires sound { IsSound (module_of module.now) }
     requires marks { length placed.now ≡ length (module_of module.now).boxes }
     requires within { IfSome number (λ b. b < length (module_of module.now).boxes) }
-    ensures { OnOk result ((q : ℕ) → Has ready.new q ↔ (Has ready.old q ⊎ ((number ≡ Some q) × AreFed (module_of module.now) placed.now q))) }
+    ensures { OnOk result ((q : ℕ) →
+        Has ready.new q ↔ (Has ready.old q ⊎
+        ((number ≡ Some q) × AreFed (module_of module.now) placed.now q))) }
 {
     let Some(number) = number else {
         return Ok(());
@@ -108,7 +114,9 @@ pub(crate) fn targets(
     side: Side,
 ) -> Result<Vec<Option<usize>>, AllocError>
     requires { IsSound (module_of module.now) }
-    ensures { IfOk result (λ targets. AreTargets (module_of module.now) side (length (module_of module.now).boxes) (length (module_of module.now).boxes) targets.items) }
+    ensures { IfOk result (λ targets.
+        AreTargets (module_of module.now) side (length (module_of module.now).boxes)
+        (length (module_of module.now).boxes) targets.items) }
 {
     let mut targets = no_targets(alloc, module.boxes.len())?;
     for number in 0..module.boxes.len() {

@@ -35,8 +35,10 @@ fn reaches_itself(
     easts: &[Option<usize>],
     start: usize,
 ) -> Result<bool, AllocError>
-    requires souths { AreTargets (module_of module.now) S (length (module_of module.now).boxes) (length (module_of module.now).boxes) souths.now }
-    requires easts { AreTargets (module_of module.now) E (length (module_of module.now).boxes) (length (module_of module.now).boxes) easts.now }
+    requires souths { AreTargets (module_of module.now) S (length (module_of module.now).boxes)
+        (length (module_of module.now).boxes) souths.now }
+    requires easts { AreTargets (module_of module.now) E (length (module_of module.now).boxes)
+        (length (module_of module.now).boxes) easts.now }
     requires within { start < length (module_of module.now).boxes }
     ensures { IfOk result (λ reaches. IsTrue reaches ↔ Reaches (module_of module.now) start start) }
 {

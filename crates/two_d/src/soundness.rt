@@ -1,7 +1,8 @@
 //! Whether a module is sound.
 
-ghost use Rattle.std.specs.Prelude.{◌≡◌, ℕ, ◌+◌, ◌≤◌, ◌<◌, ◌^◌, ◌↔◌, IsTrue, length, Some, Option, ◌⊎◌, List, All, map};
-ghost use Rattle.two_d.specs.Programs.{module_of, box_of};
+ghost use Rattle.std.specs.Prelude.{◌≡◌, ℕ, ◌+◌, ◌≤◌, ◌<◌, ◌^◌, ◌↔◌, IsTrue, length, Some, Option};
+ghost use Rattle.std.specs.Prelude.{◌⊎◌, All};
+ghost use Rattle.two_d.specs.Programs.{module_of};
 ghost use Rattle.two_d.specs.Sound.{IsSound, Exists};
 ghost use Rattle.two_d.specs.Trees.{tree_of, form_of, depth, outs_of, IsWithin, AreApart};
 ghost use Rattle.two_d.specs.inner.Ends.{end_count, origin_at, AreKnown, AreApartFrom};
@@ -158,7 +159,8 @@ fn are_known(module: &Module) -> bool
 fn are_apart(module: &Module) -> bool
     requires boxes { length module.now.boxes.items < 2 ^ 32 }
     requires exits { length module.now.exits.items < 2 ^ 32 }
-    ensures { IsTrue result ↔ ((end : ℕ) → end < end_count (module_of module.now) → AreApartFrom (module_of module.now) end end) }
+    ensures { IsTrue result ↔ ((end : ℕ) → end < end_count (module_of module.now) →
+        AreApartFrom (module_of module.now) end end) }
 {
     for end in 0..end_count(module) {
         if !is_apart(module, end) {

@@ -1,13 +1,15 @@
 //! From a list of modules to a good program.
 
-ghost use Rattle.std.specs.Prelude.{◌≡◌, ◌<◌, ◌≤◌, ◌^◌, ◌↔◌, ℕ, IsTrue, IfOk, length, map, All, Any, slice_get, Some};
+ghost use Rattle.std.specs.Prelude.{◌≡◌, ◌<◌, ◌≤◌, ◌^◌, ◌↔◌, IsTrue, IfOk, length, map, All, Any};
+ghost use Rattle.std.specs.Prelude.{Some};
 ghost use Rattle.two_d.specs.Good.{names_in, HasInputsOf, IsUnwired, NamesN, NamesW, trees_of};
 ghost use Rattle.two_d.specs.inner.NameLists.{listed};
-ghost use Rattle.two_d.specs.Programs.{module_of, modules_of, box_of, main_of, module_at};
+ghost use Rattle.two_d.specs.Programs.{module_of, modules_of, box_of, main_of};
 ghost use Rattle.two_d.specs.Reading.{Gives};
-ghost use Rattle.two_d.specs.Sound.{IsSound, IsKeptOrder};
+ghost use Rattle.two_d.specs.Sound.{IsSound};
 ghost use Rattle.two_d.specs.Table.{HasEntry, UsesNone, UsesBadly, box_faults, table_of};
-ghost use Rattle.two_d.specs.inner.TableParts.{IsFoundAs, names_of, start_of, boxes_of, all_boxes_of, uses_of, cycles_of};
+ghost use Rattle.two_d.specs.inner.TableParts.{IsFoundAs, names_of, start_of, boxes_of};
+ghost use Rattle.two_d.specs.inner.TableParts.{all_boxes_of, uses_of, cycles_of};
 ghost use Rattle.two_d.specs.inner.TableFaults.{wrong_of};
 ghost use Rattle.two_d.specs.Trees.{form_of, tree_of};
 ghost use Rattle.two_d.specs.inner.Orders.{AreOrdersKept};

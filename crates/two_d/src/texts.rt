@@ -1,12 +1,12 @@
 //! The texts of outcomes.
 
 ghost use Rattle.std.specs.Prelude.{◌≡◌, ◌≢◌, ◌<◌, [], ◌∷◌, ◌++◌, All, codes, length, reverse, IfOk, Err, IsErrOf};
-ghost use Rattle.std.specs.List.{flat_map};
 ghost use Rattle.umix_base.specs.Causes.{HasCause, HasCauseIf, KeepsTelling};
 ghost use Rattle.codex_values.specs.Store.{values_of, value_at};
 ghost use Rattle.codex_values.specs.Value.{show};
 ghost use Rattle.codex_values.specs.Writing.{Writes};
-ghost use Rattle.two_d.specs.Texts.{text_of, site_line, caller_line, caller_lines, outcome_in, IsPlaceIn, IsOutcomeOf, IsTrailOf, IsSiteOf, HasBox};
+ghost use Rattle.two_d.specs.Texts.{text_of, site_line, caller_line, caller_lines, outcome_in};
+ghost use Rattle.two_d.specs.Texts.{IsPlaceIn, IsOutcomeOf, IsTrailOf, IsSiteOf, HasBox};
 ghost use Rattle.two_d.specs.Trails.{trails_of, trail_at};
 
 use crate::pieces::{name_of, number_of};
@@ -26,8 +26,10 @@ pub fn text<S: Sink>(
     sink: &mut S,
 ) -> Result<(), PrintFault>
     requires place { IsPlaceIn (length values.now) (length trails.now) outcome.now }
-    requires of_program { IsOutcomeOf program.now (outcome_in (values_of values.now) (trails_of trails.now) outcome.now) }
-    ensures written { Writes (text_of program.now (outcome_in (values_of values.now) (trails_of trails.now) outcome.now))
+    requires of_program { IsOutcomeOf program.now
+        (outcome_in (values_of values.now) (trails_of trails.now) outcome.now) }
+    ensures written { Writes (text_of program.now
+        (outcome_in (values_of values.now) (trails_of trails.now) outcome.now))
         (S.written sink.old) (S.written sink.new) result }
     ensures tells { KeepsTelling (S.written sink.old) (S.written sink.new) }
     ensures cause { HasCauseIf (IsErrOf result PrintFault.Write)
@@ -66,7 +68,8 @@ fn put_trail<S: Sink>(
 ) -> Result<(), PrintFault>
     requires place { at < length trails.now }
     requires of_program { IsTrailOf program.now (trail_at trails.now at) }
-    ensures written { Writes (site_line program.now (trail_at trails.now at).site ++ caller_lines program.now (trail_at trails.now at).callers)
+    ensures written { Writes (site_line program.now (trail_at trails.now at).site
+        ++ caller_lines program.now (trail_at trails.now at).callers)
         (S.written sink.old) (S.written sink.new) result }
     ensures tells { KeepsTelling (S.written sink.old) (S.written sink.new) }
     ensures cause { HasCauseIf (IsErrOf result PrintFault.Write)
@@ -154,7 +157,8 @@ fn put_callers<S: Sink>(
     sink: &mut S,
 ) -> Result<(), Failed>
     requires { All (HasBox program.now) (reverse callers.items) }
-    ensures written { Writes (caller_lines program.now (reverse callers.items)) (S.written sink.old) (S.written sink.new) result }
+    ensures written { Writes (caller_lines program.now (reverse callers.items)) (S.written sink.old)
+        (S.written sink.new) result }
     ensures tells { KeepsTelling (S.written sink.old) (S.written sink.new) }
     ensures cause { HasCause (S.faults sink.old) (S.faults sink.new) result }
 {

@@ -1,5 +1,6 @@
 -- Whether a program fits a sheet, or the first reason why not.
-use Rattle.std.specs.Prelude.{ℕ, ◌-◌, ◌<◌, List, length, slice_get, Option, Some, None, Bool, true, false, not, is_some, IsTrue, ◌&&◌, ◌||◌}
+use Rattle.std.specs.Prelude.{ℕ, ◌-◌, ◌<◌, List, length, slice_get, Option, Some, None, Bool, true}
+use Rattle.std.specs.Prelude.{false, not, is_some, IsTrue, ◌&&◌, ◌||◌}
 use Rattle.std.specs.List.{list_all}
 use Rattle.std.specs.Option.{option_map_or}
 use Rattle.two_d.specs.declared.module.Origin.{Origin}
@@ -19,7 +20,8 @@ use Rattle.type_sheet.specs.declared.line.Line.TheVariants.{Kind, Module, Wire, 
 use Rattle.type_sheet.specs.declared.line.SheetRow.{SheetRow}
 use Rattle.type_sheet.specs.Said.{is_side, module_line, wire_line, of_line, north_type, west_type, result_type}
 use Rattle.type_sheet.specs.Types.{InputTypes, carries, expression_has}
-use Rattle.type_sheet.specs.Wires.{WireTypes, is_wired, origin_of, input_types, expression_type, summands_of, components_of, wire_type}
+use Rattle.type_sheet.specs.Wires.{WireTypes, is_wired, origin_of, input_types, expression_type}
+use Rattle.type_sheet.specs.Wires.{summands_of, components_of, wire_type}
 
 -- the command itself says what the side carries
 abbrev pub says_type : Form → Side → Bool

@@ -1,5 +1,6 @@
 -- What the wires of a module carry.
-use Rattle.std.specs.Prelude.{ℕ, zero, suc, ◌==◌, List, length, slice_get, Option, Some, None, Bool, true, false, ◌||◌, if◌then◌else◌}
+use Rattle.std.specs.Prelude.{ℕ, zero, suc, ◌==◌, List, length, slice_get, Option, Some, None, Bool}
+use Rattle.std.specs.Prelude.{true, false, ◌||◌, if◌then◌else◌}
 use Rattle.std.specs.List.{list_any}
 use Rattle.std.specs.Option.{option_map, option_and_then}
 use Rattle.two_d.specs.Programs.{BoxForm, ModuleForm}

@@ -5,7 +5,9 @@ ghost use Rattle.std.specs.Option.{option_map, option_and_then, option_copied};
 ghost use Rattle.type_sheet.specs.Sheets.{IsSheet};
 ghost use Rattle.type_sheet.specs.Said.{form_in};
 ghost use Rattle.type_sheet.specs.Said.{module_line, wire_line, of_line};
-ghost use Rattle.type_sheet.specs.inner.Subjects.{key_read, line_of, types_read, form_in_line, module_in_line, wire_in_line, of_in_line, IsIndexed};
+ghost use Rattle.type_sheet.specs.inner.Subjects.{key_read, line_of, types_read, form_in_line};
+ghost use Rattle.type_sheet.specs.inner.Subjects.{module_in_line, wire_in_line, of_in_line};
+ghost use Rattle.type_sheet.specs.inner.Subjects.{IsIndexed};
 
 use crate::index::{Index, Subject, port_of};
 use crate::line::{Form, Line, SheetRow};

@@ -1,9 +1,10 @@
 //! Rows by what they declare.
 
-ghost use Rattle.std.specs.Prelude.{◌≡◌, ℕ, ◌<◌, ◌⊎◌, length, take, None, Some, IfOk, MatchOption, slice_get};
+ghost use Rattle.std.specs.Prelude.{◌≡◌, ℕ, ◌<◌, ◌⊎◌, take, None, Some, IfOk, MatchOption};
+ghost use Rattle.std.specs.Prelude.{slice_get};
 ghost use Rattle.two_d.specs.declared.command.Side.TheVariants.{S, E};
 ghost use Rattle.type_sheet.specs.declared.line.SheetRow.{SheetRow};
-ghost use Rattle.type_sheet.specs.Sheets.{Subject as SubjectForm, a_type, a_module, port, expression, subject_of};
+ghost use Rattle.type_sheet.specs.Sheets.{Subject as SubjectForm, port, expression, subject_of};
 ghost use Rattle.type_sheet.specs.inner.Subjects.{key_read, place_in, place_of};
 
 use crate::line::{Line, SheetRow};

@@ -1,10 +1,12 @@
 //! Which lines a program needs. No other lines are allowed.
 
-ghost use Rattle.std.specs.Prelude.{◌≡◌, ◌-◌, ◌<◌, ◌^◌, ◌&&◌, ◌||◌, not, is_some, length, slice_get, MatchOption, Some, None};
+ghost use Rattle.std.specs.Prelude.{◌≡◌, ◌-◌, ◌<◌, ◌^◌, ◌&&◌, ◌||◌, not, is_some, length};
+ghost use Rattle.std.specs.Prelude.{slice_get, MatchOption, Some, None};
 ghost use Rattle.std.specs.Option.{option_copied};
 ghost use Rattle.two_d.specs.Programs.{find, module_of};
 ghost use Rattle.two_d.specs.Trees.{form_of, tree_of};
-ghost use Rattle.type_sheet.specs.Fits.{agree, says_type, is_port, needs_type, needs_wire, needs_of, has_place, has_lines, has_wire_line, has_of_line, of_module};
+ghost use Rattle.type_sheet.specs.Fits.{agree, says_type, is_port, needs_type, needs_wire};
+ghost use Rattle.type_sheet.specs.Fits.{needs_of, has_place, has_lines, has_wire_line, has_of_line};
 ghost use Rattle.type_sheet.specs.inner.Carried.{IsWiredOf, AreWiredOf};
 ghost use Rattle.type_sheet.specs.inner.Subjects.{IsIndexed};
 

@@ -6,7 +6,8 @@ ghost use Rattle.std.specs.Option.{option_to_list};
 ghost use Rattle.std.specs.Str.Lines.{lines};
 ghost use Rattle.two_d.specs.Reading.{each_from, Gives, Refuses, Then};
 ghost use Rattle.type_sheet.specs.declared.line.SheetRow.{SheetRow as SheetRowForm};
-ghost use Rattle.type_sheet.specs.Sheets.{Subject as SubjectForm, declares_anew, fault_of, row_of, rows_from, sheet_of, types_used, uses_declared, IsSheet};
+ghost use Rattle.type_sheet.specs.Sheets.{Subject as SubjectForm, declares_anew, fault_of, row_of};
+ghost use Rattle.type_sheet.specs.Sheets.{rows_from, sheet_of, types_used, uses_declared, IsSheet};
 ghost use Rattle.type_sheet.specs.inner.Subjects.{has_kind, place_in, place_of};
 
 use crate::fault::SheetFault;

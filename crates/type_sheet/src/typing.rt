@@ -1,6 +1,6 @@
 //! The types of wires and of expressions.
 
-ghost use Rattle.std.specs.Prelude.{◌≡◌, ◌<◌, ◌^◌, IfOk, IfSome, length, slice_get, slice_index_or, None};
+ghost use Rattle.std.specs.Prelude.{◌≡◌, ◌<◌, ◌^◌, IfOk, length, slice_index_or, None};
 ghost use Rattle.std.specs.List.{list_all};
 ghost use Rattle.std.specs.Option.{option_map, option_copied};
 ghost use Rattle.two_d.specs.declared.module.Origin.{Origin as OriginForm};
@@ -8,9 +8,11 @@ ghost use Rattle.two_d.specs.Programs.{box_of, module_of};
 ghost use Rattle.two_d.specs.Trees.{form_of, outs_of, tree_of};
 ghost use Rattle.type_sheet.specs.Types.{expression_has, carries};
 ghost use Rattle.type_sheet.specs.Said.{north_type, west_type};
-ghost use Rattle.type_sheet.specs.Wires.{expression_type, origin_of, components_of, part, input_types, side_type, summands_of, type_to, types_from};
+ghost use Rattle.type_sheet.specs.Wires.{expression_type, origin_of, components_of, part};
+ghost use Rattle.type_sheet.specs.Wires.{input_types, side_type, summands_of, type_to};
 ghost use Rattle.type_sheet.specs.Fits.{command_fits, expression_fits, wire_fits, out_fits};
-ghost use Rattle.type_sheet.specs.inner.Carried.{joined_fits, pair_read, inputs_read, types_with_row, types_in, HasRoom, IsWiredOf};
+ghost use Rattle.type_sheet.specs.inner.Carried.{joined_fits, pair_read, inputs_read};
+ghost use Rattle.type_sheet.specs.inner.Carried.{types_with_row, types_in, HasRoom, IsWiredOf};
 ghost use Rattle.type_sheet.specs.inner.Subjects.{IsIndexed};
 
 use crate::declared::{Declared, north_of, result_of, west_of};

@@ -1,9 +1,7 @@
 //! The lines of a text where they stand, for a listing.
 
 ghost use Rattle.std.specs.Prelude.{◌≡◌, IfOk, map};
-ghost use Rattle.std.specs.Option.{option_copied};
-ghost use Rattle.um_asm.specs.TextLines.{base_of, head_behind, head_of, text_lines};
-ghost use Rattle.um_asm.specs.Tokens.{behind_byte};
+ghost use Rattle.um_asm.specs.TextLines.{base_of, head_of, text_lines};
 ghost use Rattle.um_asm.specs.inner.Parts.{block_read_at};
 ghost use Rattle.um_asm.specs.inner.TextParts.{head_read, text_line_read};
 

@@ -48,8 +48,23 @@ machine_of words limits = record {
 abbrev pub machine_code : Coded MachineView
 machine_code =
     code_by (List ℕ × (ℕ × (Arrays × ((ℕ × List ℕ) × ((ℕ × ℕ) × (ℕ × Bool))))))
-    (coded× (coded_list coded_ℕ) (coded× coded_ℕ (coded× (map.code coded_ℕ (coded_list coded_ℕ)) (coded× (coded× coded_ℕ (coded_list coded_ℕ)) (coded× (coded× coded_ℕ coded_ℕ) (coded× coded_ℕ coded_bool))))))
-    (λ m. (m.registers, (m.finger, (m.arrays, ((m.identifiers.made, m.identifiers.abandoned), ((m.limits.arrays, m.limits.words), (m.cycles, m.halted)))))))
+    (coded× (coded_list coded_ℕ) (coded×
+    coded_ℕ (coded× (map.code coded_ℕ (coded_list coded_ℕ))
+    (coded× (coded× coded_ℕ (coded_list coded_ℕ))
+    (coded× (coded× coded_ℕ coded_ℕ) (coded× coded_ℕ coded_bool))))))
+    (λ m. (
+      m.registers,
+      (
+        m.finger,
+        (
+          m.arrays,
+          (
+            (m.identifiers.made, m.identifiers.abandoned),
+            ((m.limits.arrays, m.limits.words), (m.cycles, m.halted)),
+          ),
+        ),
+      ),
+    ))
     (λ p. record {
       registers = p.0;
       finger = p.1.0;

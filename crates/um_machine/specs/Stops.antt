@@ -7,7 +7,13 @@ use Rattle.um_word.specs.Table as table
 use Rattle.um_machine.specs.declared.stop.Turn.{Turn}
 use Rattle.um_machine.specs.declared.stop.Turn.TheVariants as turns
 use Rattle.um_machine.specs.declared.stop.Stop.{Stop}
-use Rattle.um_machine.specs.declared.stop.Stop.TheVariants.{Halted, Budget, FingerOutside, BadOperator, IndexInactive, IndexOutside, AmendInactive, AmendOutside, DivideByZero, AbandonZero, AbandonInactive, LoadInactive, OutputTooLarge, ArraysFull, WordsFull, ReadFault, WriteFault, Memory}
+use Rattle.um_machine.specs.declared.stop.Stop.TheVariants.{Halted, Budget, FingerOutside}
+use Rattle.um_machine.specs.declared.stop.Stop.TheVariants.{BadOperator, IndexInactive}
+use Rattle.um_machine.specs.declared.stop.Stop.TheVariants.{IndexOutside, AmendInactive}
+use Rattle.um_machine.specs.declared.stop.Stop.TheVariants.{AmendOutside, DivideByZero, AbandonZero}
+use Rattle.um_machine.specs.declared.stop.Stop.TheVariants.{AbandonInactive, LoadInactive}
+use Rattle.um_machine.specs.declared.stop.Stop.TheVariants.{OutputTooLarge, ArraysFull, WordsFull}
+use Rattle.um_machine.specs.declared.stop.Stop.TheVariants.{ReadFault, WriteFault, Memory}
 
 -- the stop of a fault of the table
 abbrev pub stop_of : Fault → Stop

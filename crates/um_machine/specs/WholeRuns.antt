@@ -40,4 +40,5 @@ RunsAreAlone = (n : ℕ) (before now : Seen) (left : List ℕ) (stop : Stop) →
 
 -- so the run of words is the run from their start
 abbrev pub StartsAtTheStart : Type 0
-StartsAtTheStart = (words input : List ℕ) (limits : Limits) → state_of (machine_of words limits) input [] ≡ start_of words input
+StartsAtTheStart = (words input : List ℕ) (limits : Limits) →
+    state_of (machine_of words limits) input [] ≡ start_of words input

@@ -1,6 +1,8 @@
 //! The machine and its calls.
 
-ghost use Rattle.std.specs.Prelude.{◌≡◌, ◌<◌, ◌≤◌, ◌+◌, ◌^◌, ◌⊎◌, ℕ, List, [], slice_get, slice_index, slice_set, true, false, length, IfSome, IfOk, OnOk, OnErr, IfErr, Some, Err};
+ghost use Rattle.std.specs.Prelude.{◌≡◌, ◌<◌, ◌≤◌, ◌+◌, ◌^◌, ◌⊎◌, ℕ, List, [], slice_get};
+ghost use Rattle.std.specs.Prelude.{slice_index, slice_set, true, false, length, IfSome, IfOk};
+ghost use Rattle.std.specs.Prelude.{OnOk, OnErr, IfErr, Some, Err};
 ghost use Rattle.std.specs.Option.{option_map};
 ghost use Rattle.std.specs.FinMap as map;
 ghost use Rattle.um_word.specs.Operators.{IsEncodable};

@@ -1,12 +1,15 @@
 -- The table without its limits, and runs by it.
-use Rattle.std.specs.Prelude.{◌≡◌, ℕ, zero, suc, ◌<◌, ◌⊎◌, false, ◌==◌, nat_le, if◌then◌else◌, List, Option, Some, None, replicate}
+use Rattle.std.specs.Prelude.{◌≡◌, ℕ, zero, suc, ◌<◌, ◌⊎◌, false, ◌==◌, nat_le, if◌then◌else◌, List}
+use Rattle.std.specs.Prelude.{Option, Some, None, replicate}
 use Rattle.std.specs.FinMap as map
 use Rattle.umix_base.specs.declared.limits.Limits.{Limits}
 use Rattle.um_word.specs.declared.op.Op.{Op}
 use Rattle.um_word.specs.declared.op.Op.TheVariants.{Alloc, Load}
 use Rattle.um_word.specs.Operators.{decode_word}
 use Rattle.um_word.specs.State.{State, reg, with_reg, with_array, platter}
-use Rattle.um_word.specs.Table.{Fault, FingerOutside, BadOperator, LoadInactive, ArraysFull, WordsFull, Next, Goes, Stops, with_some, arrays_after_allocation, words_after_allocation, words_after_load, row, moved, op_under}
+use Rattle.um_word.specs.Table.{Fault, FingerOutside, BadOperator, LoadInactive, ArraysFull}
+use Rattle.um_word.specs.Table.{WordsFull, Next, Goes, Stops, with_some, arrays_after_allocation}
+use Rattle.um_word.specs.Table.{words_after_allocation, words_after_load, row, moved, op_under}
 use Rattle.um_word.specs.Run.{Standing, Stands, Failed, run_after, run_by}
 
 -- only Allocation and Load look at the limits
@@ -64,7 +67,8 @@ free_by offer left (suc n) i s =
     if s.halted then Stands s i else run_after (free_cycle s (offer i)) s i (free_by offer left n (left s i))
 
 -- A run of n cycles ends at a limit: up to a moment it is the free run, and there the limit is met.
-pub record EndsAtLimit {I : Type 0} (offer : I → ℕ) (left : State → I → I) (L : Limits) (n : ℕ) (i : I) (s : State) : Type 0 where
+pub record EndsAtLimit {I : Type 0} (offer : I → ℕ) (left : State → I → I) (L : Limits) (n : ℕ)
+    (i : I) (s : State) : Type 0 where
   pub moment : ℕ
   pub state : State
   pub rest : I

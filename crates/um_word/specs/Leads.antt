@@ -23,7 +23,8 @@ unfoldable pub Leads : (State → Loads → Type 0) → ℕ → (State → Loads
 Leads I zero Q s l = Q s l
 Leads I (suc n) Q s l =
     (s.halted ≡ false) × I s l
-    × ((id : ℕ) → (is_allocation (op_under s) ≡ true → IsNew s.arrays id) → OnGoing (free_cycle s id) (λ t. Leads I n Q t (l ++ next_load s)))
+    × ((id : ℕ) → (is_allocation (op_under s) ≡ true → IsNew s.arrays id) →
+    OnGoing (free_cycle s id) (λ t. Leads I n Q t (l ++ next_load s)))
 
 -- how a run stands: in a state with P, or failed in a state with F
 abbrev pub OnStanding : {I : Type 0} → Standing I → (State → Type 0) → (State → Fault → Type 0) → Type 0
@@ -31,7 +32,8 @@ OnStanding (Stands t i) P F = P t
 OnStanding (Failed t i fault) P F = F t fault
 
 -- the run has met this limit on the way to Q
-pub record MeetsLimit (I : State → Loads → Type 0) (Q : State → Loads → Type 0) (L : Limits) (l : Loads) (t : State) (fault : Fault) : Type 0 where
+pub record MeetsLimit (I : State → Loads → Type 0) (Q : State → Loads → Type 0) (L : Limits)
+    (l : Loads) (t : State) (fault : Fault) : Type 0 where
   pub limit : IsLimit fault
   pub met : limit_at L t ≡ Some fault
   pub more : ℕ

@@ -1,5 +1,6 @@
 -- The loads of a run, and how a run stands, whatever form the identifiers that are left have.
-use Rattle.std.specs.Prelude.{ℕ, zero, suc, ◌+◌, ◌==◌, Bool, if◌then◌else◌, List, [], ◌∷◌, ◌++◌, map, Option, Some, None}
+use Rattle.std.specs.Prelude.{ℕ, zero, suc, ◌+◌, ◌==◌, Bool, if◌then◌else◌, List, [], ◌∷◌, ◌++◌}
+use Rattle.std.specs.Prelude.{map, Option, Some, None}
 use Rattle.umix_base.specs.declared.limits.Limits.{Limits}
 use Rattle.um_word.specs.declared.op.Op.{Op}
 use Rattle.um_word.specs.declared.op.Op.TheVariants.{Load}
@@ -17,7 +18,8 @@ abbrev pub Loads : Type 0
 Loads = List Loaded
 
 abbrev pub load_by : Option Op → State → Loads
-load_by (Some (Load b c)) s = if reg s b == 0 then [] else record { words = array_at s.arrays (reg s b); offset = reg s c } ∷ []
+load_by (Some (Load b c)) s = if reg s b == 0 then []
+    else record { words = array_at s.arrays (reg s b); offset = reg s c } ∷ []
 load_by _ s = []
 
 -- what the next cycle loads, if it succeeds

@@ -1,7 +1,8 @@
 -- What a platter says as an operator.
 use Rattle.std.specs.Prelude.{ℕ, ◌+◌, ◌*◌, ◌/◌, ◌%◌, ◌^◌, ◌<◌, List, [], ◌∷◌, Option, slice_get}
 use Rattle.um_word.specs.declared.op.Op.{Op}
-use Rattle.um_word.specs.declared.op.Op.TheVariants.{Move, Index, Amend, Add, Mul, Div, Nand, Halt, Alloc, Abandon, Out, Input, Load, Set}
+use Rattle.um_word.specs.declared.op.Op.TheVariants.{Move, Index, Amend, Add, Mul, Div, Nand, Halt}
+use Rattle.um_word.specs.declared.op.Op.TheVariants.{Alloc, Abandon, Out, Input, Load, Set}
 
 -- the operators with these registers, by number; the last has a register and a value of its own
 abbrev pub operators : (a b c high value : ℕ) → List Op

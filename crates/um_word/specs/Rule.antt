@@ -1,5 +1,7 @@
 -- The rule by which identifiers are handed out.
-use Rattle.std.specs.Prelude.{◌≡◌, ℕ, zero, suc, ◌+◌, ◌-◌, ◌^◌, ◌<◌, ◌≤◌, ◌⊎◌, ◌↔◌, if◌then◌else◌, List, [], ◌∷◌, ◌++◌, length, take, All, Contains, Option, Some, None, IsSome, slice_get, unwrap_or, nat_eq}
+use Rattle.std.specs.Prelude.{◌≡◌, ℕ, zero, suc, ◌+◌, ◌-◌, ◌^◌, ◌<◌, ◌≤◌, ◌⊎◌, ◌↔◌, if◌then◌else◌}
+use Rattle.std.specs.Prelude.{List, [], ◌∷◌, ◌++◌, length, take, All, Contains, Option, Some, None}
+use Rattle.std.specs.Prelude.{IsSome, slice_get, unwrap_or, nat_eq}
 use Rattle.std.specs.List.{IsDistinct}
 use Rattle.std.specs.FinMap as map
 use Rattle.umix_base.specs.declared.limits.Limits.{Limits}
@@ -51,7 +53,8 @@ ruled = run_by next_identifier identifiers_left
 -- What the rule keeps: the arrays are array 0 and just those made and not abandoned since; none is
 -- abandoned twice; and the limits are kept.
 pub record IsOrderly (L : Limits) (i : Identifiers) (arrays : Arrays) : Type 0 where
-  pub active : (id : ℕ) → IsSome (map.get arrays id) ↔ ((id ≡ 0) ⊎ ((1 ≤ id) × (id ≤ i.made) × (Contains i.abandoned id → ⊥)))
+  pub active : (id : ℕ) → IsSome (map.get arrays id) ↔ ((id ≡ 0) ⊎
+      ((1 ≤ id) × (id ≤ i.made) × (Contains i.abandoned id → ⊥)))
   pub abandoned : All (λ id. (1 ≤ id) × (id ≤ i.made)) i.abandoned
   pub once : IsDistinct nat_eq i.abandoned
   pub counted : live_arrays arrays + length i.abandoned ≡ i.made

@@ -20,5 +20,6 @@ scroll (word ∷ words) = to_be_bytes w32 word ++ scroll words
 -- why these bytes are no scroll, with their count; want of memory takes the place of neither
 abbrev pub IsScrollFault : List ℕ → ScrollFault → Type 0
 IsScrollFault bytes (TooLong count) = (count ≡ length bytes) × (most_scroll_bytes < length bytes)
-IsScrollFault bytes (Ragged count) = (count ≡ length bytes) × (length bytes ≤ most_scroll_bytes) × (length bytes % 4 ≢ 0)
+IsScrollFault bytes (Ragged count) = (count ≡ length bytes) × (length bytes ≤ most_scroll_bytes) ×
+    (length bytes % 4 ≢ 0)
 IsScrollFault bytes Memory = (length bytes ≤ most_scroll_bytes) × (length bytes % 4 ≡ 0)

@@ -1,9 +1,12 @@
 -- The table of the machine: what one cycle does, by one row for each operator.
-use Rattle.std.specs.Prelude.{ℕ, zero, suc, ◌+◌, ◌-◌, ◌*◌, ◌/◌, ◌%◌, ◌^◌, true, ◌==◌, nat_lt, nat_le, if◌then◌else◌, List, [], ◌∷◌, ◌++◌, length, Option, Some, None, bit_and, slice_get, slice_set, replicate}
+use Rattle.std.specs.Prelude.{ℕ, zero, suc, ◌+◌, ◌-◌, ◌*◌, ◌/◌, ◌%◌, ◌^◌, true, ◌==◌, nat_lt}
+use Rattle.std.specs.Prelude.{nat_le, if◌then◌else◌, List, [], ◌∷◌, ◌++◌, length, Option, Some}
+use Rattle.std.specs.Prelude.{None, bit_and, slice_get, slice_set, replicate}
 use Rattle.std.specs.FinMap as map
 use Rattle.umix_base.specs.declared.limits.Limits.{Limits}
 use Rattle.um_word.specs.declared.op.Op.{Op}
-use Rattle.um_word.specs.declared.op.Op.TheVariants.{Move, Index, Amend, Add, Mul, Div, Nand, Halt, Alloc, Abandon, Out, Input, Load, Set}
+use Rattle.um_word.specs.declared.op.Op.TheVariants.{Move, Index, Amend, Add, Mul, Div, Nand, Halt}
+use Rattle.um_word.specs.declared.op.Op.TheVariants.{Alloc, Abandon, Out, Input, Load, Set}
 use Rattle.um_word.specs.Operators.{decode_word}
 use Rattle.um_word.specs.State.{State, array_at, live_arrays, live_words, reg, with_reg, with_array, platter}
 

@@ -4,7 +4,8 @@ ghost use Rattle.um_word.specs.Scroll.{most_scroll_words, most_scroll_bytes};
 ghost use Rattle.um_word.specs.Run.{RunsCompose, first_of, ids_left};
 ghost use Rattle.um_word.specs.Free.{FaultsAreOver, RunsAreLimited};
 ghost use Rattle.um_word.specs.Rule.{next_identifier, identifiers_left, RulesAreLegal, RunsBeginOrderly};
-ghost use Rattle.um_word.specs.EveryRun.{RefusalsAgree, LegalSplits, OutputsAreBehind, OutputsGrow, StartsAreFormed, CyclesKeepForm};
+ghost use Rattle.um_word.specs.EveryRun.{RefusalsAgree, LegalSplits, OutputsAreBehind, OutputsGrow};
+ghost use Rattle.um_word.specs.EveryRun.{StartsAreFormed, CyclesKeepForm};
 
 use crate::{MOST_SCROLL_BYTES, MOST_SCROLL_WORDS};
 
@@ -37,7 +38,7 @@ pub fn refusals_agree()
 
 /// A run doesn't look at what was written before it, and writes behind it. So the output of `n` cycles is
 /// a beginning of the output of more.
-#[tactic(auto, using(crate::proofs::Outputs::outputs_are_behind, crate::proofs::Outputs::outputs_grow, crate::proofs::Outputs::list_is_blind, crate::proofs::Outputs::rule_is_blind))]
+#[tactic(auto, using(crate::proofs::Outputs::outputs_are_behind, crate::proofs::Outputs::outputs_grow, crate::proofs::Outputs::list_is_blind, crate::proofs::Outputs::rule_is_blind,))]
 pub fn outputs_grow()
     ensures listed { OutputsGrow first_of ids_left }
     ensures ruled { OutputsGrow next_identifier identifiers_left }

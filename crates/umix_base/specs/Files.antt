@@ -1,5 +1,6 @@
 -- Files by their names, and what a call does to them.
-use Rattle.std.specs.Prelude.{◌≡◌, ◌⊎◌, ◌≤◌, ℕ, List, length, take, Option, Some, None, option_map, Result, Ok, Err, IfOk, Vec}
+use Rattle.std.specs.Prelude.{◌≡◌, ◌⊎◌, ◌≤◌, ℕ, List, length, take, Option, Some, None, option_map}
+use Rattle.std.specs.Prelude.{Result, Ok, Err, IfOk, Vec}
 use Rattle.std.specs.Ordering.{nat_cmp}
 use Rattle.std.specs.Cmp.Lexicographic.{slice_cmp}
 use Rattle.std.specs.FinMap as map
@@ -15,7 +16,8 @@ Files = map.FinMap (slice_cmp nat_cmp) (List ℕ)
 -- a read gives the first bytes of the file, as many as were asked for where it has them
 abbrev pub ReadsFile : Option Files → List ℕ → ℕ → Result (Vec ℕ Global) ShelfFault → Type 0
 ReadsFile None name max result = Unit {0}
-ReadsFile (Some files) name max result = IfOk result (λ bytes. option_map (take max) (map.get files name) ≡ Some bytes.items)
+ReadsFile (Some files) name max result = IfOk result
+    (λ bytes. option_map (take max) (map.get files name) ≡ Some bytes.items)
 
 -- the shelf tells its files, and this one isn't there
 abbrev pub Lacks : Option Files → List ℕ → Type 0
@@ -23,7 +25,8 @@ Lacks None name = ⊥
 Lacks (Some files) name = map.get files name ≡ None
 
 -- the count of reads never falls, and a read failed only where it rose or the file is known not to be there
-pub record HasReadCause (files : Option Files) (name : List ℕ) (before now : ℕ) (result : Result (Vec ℕ Global) ShelfFault) : Type 0 where
+pub record HasReadCause (files : Option Files) (name : List ℕ) (before now : ℕ)
+    (result : Result (Vec ℕ Global) ShelfFault) : Type 0 where
   pub later : before ≤ now
   pub rose : result ≡ Err Failed → Rose before now ⊎ Lacks files name
 

@@ -1,5 +1,6 @@
 -- A shelf in memory, and what a call may answer and leave.
-use Rattle.std.specs.Prelude.{◌≡◌, ℕ, ◌||◌, ◌==◌, List, find, take, Option, Some, None, option_map, is_some, is_none, IsTrue, IsSome, IfSome, Result, Ok, Err, Vec}
+use Rattle.std.specs.Prelude.{◌≡◌, ℕ, ◌||◌, ◌==◌, List, find, take, Option, Some, None, option_map}
+use Rattle.std.specs.Prelude.{is_some, is_none, IsTrue, IsSome, IfSome, Result, Ok, Err, Vec}
 use Rattle.std.specs.FinMap as files
 use Rattle.std.specs.declared.alloc.Global.{Global}
 use Rattle.umix_base.specs.Calls.{one_more, counted}
@@ -26,7 +27,8 @@ called s = record s { calls = one_more s.calls }
 
 -- a read fails where its number says so or there is no such file; want of memory takes neither's place
 abbrev pub AnswersRead : ShelfInMemory → List ℕ → ℕ → Result (Vec ℕ Global) ShelfFault → Type 0
-AnswersRead s name max (Ok bytes) = (failure s ≡ None) × (option_map (take max) (files.get s.held name) ≡ Some bytes.items)
+AnswersRead s name max (Ok bytes) = (failure s ≡ None) ×
+    (option_map (take max) (files.get s.held name) ≡ Some bytes.items)
 AnswersRead s name max (Err Failed) = IsTrue (is_some (failure s) || is_none (files.get s.held name))
 AnswersRead s name max (Err Memory) = (failure s ≡ None) × IsSome (files.get s.held name)
 

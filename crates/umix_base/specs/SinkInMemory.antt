@@ -2,7 +2,8 @@
 use Rattle.std.specs.Prelude.{if◌then◌else◌, ℕ, ◌+◌, Bool, ◌||◌, List, length, ◌++◌, nat_lt}
 use Rattle.umix_base.specs.Calls.{one_more, counted, is_failing}
 
--- the bytes written, how many there may be, the numbers of the calls that fail, the next call's number, and how often one has failed
+-- the bytes written, how many there may be, the numbers of the calls that fail, the next call's
+-- number, and how often one has failed
 pub record SinkInMemory : Type 0 where
   pub bytes : List ℕ
   pub room : ℕ

@@ -1,7 +1,7 @@
 ghost use Rattle.std.specs.Prelude.{◌≡◌, ◌==◌, [], find, Some, OnOk, OnErr, IsErrOf};
 ghost use Rattle.std.specs.Option.{option_copied};
 ghost use Rattle.std.specs.FinMap as map;
-ghost use Rattle.umix_base.specs.Causes.{HasCauseIf, KeepsTelling};
+ghost use Rattle.umix_base.specs.Causes.{HasCauseIf};
 ghost use Rattle.umix_base.specs.Files.{ReadsFile, WritesFile, HasReadCause};
 ghost use Rattle.umix_base.specs.ShelfInMemory.{ShelfInMemory, AnswersRead, after_read, AnswersWrite};
 

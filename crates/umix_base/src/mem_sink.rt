@@ -1,5 +1,5 @@
 ghost use Rattle.std.specs.Prelude.{◌≡◌, [], IfOk, Some, is_err};
-ghost use Rattle.umix_base.specs.Causes.{HasCause, KeepsTelling};
+ghost use Rattle.umix_base.specs.Causes.{HasCause};
 ghost use Rattle.umix_base.specs.Streams.{Appends};
 ghost use Rattle.umix_base.specs.SinkInMemory.{SinkInMemory, fails_put, after_put};
 

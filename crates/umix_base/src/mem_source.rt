@@ -1,5 +1,5 @@
 ghost use Rattle.std.specs.Prelude.{◌≡◌, [], Some, is_err};
-ghost use Rattle.umix_base.specs.Causes.{HasCause, KeepsTelling};
+ghost use Rattle.umix_base.specs.Causes.{HasCause};
 ghost use Rattle.umix_base.specs.Streams.{Takes};
 ghost use Rattle.umix_base.specs.SourceInMemory.{SourceInMemory, fails_next, after_next};
 

@@ -1,4 +1,4 @@
-ghost use Rattle.std.specs.Prelude.{◌≡◌, ◌≤◌, List, ℕ, Option, length, IfOk, IsErrOf};
+ghost use Rattle.std.specs.Prelude.{◌≡◌, ◌≤◌, ℕ, Option, length, IfOk, IsErrOf};
 ghost use Rattle.umix_base.specs.Files.{Files, ReadsFile, WritesFile, HasReadCause};
 ghost use Rattle.umix_base.specs.Causes.{HasCauseIf, KeepsTelling};
 

@@ -1,5 +1,5 @@
 ghost use Rattle.std.specs.Prelude.{◌≡◌, IsOk, Some};
-ghost use Rattle.umix_base.specs.Causes.{HasCause, KeepsTelling};
+ghost use Rattle.umix_base.specs.Causes.{HasCause};
 ghost use Rattle.umix_base.specs.Streams.{Takes};
 
 use crate::{Failed, Source};

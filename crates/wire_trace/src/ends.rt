@@ -1,6 +1,5 @@
-ghost use Rattle.std.specs.Prelude.{◌≡◌, ℕ, MatchOption, Some, slice_get};
-ghost use Rattle.two_d.specs.Wires.{EndsAt, east, south};
-ghost use Rattle.two_d.specs.declared.module.To as tos;
+ghost use Rattle.std.specs.Prelude.{◌≡◌, Some};
+ghost use Rattle.two_d.specs.Wires.{east, south};
 ghost use Rattle.wire_trace.specs.inner.Positions.{position_of};
 ghost use Rattle.wire_trace.specs.inner.Sheets.{drawing_in, IsSheet, AreOwnersOf};
 ghost use Rattle.wire_trace.specs.inner.Ends.{FindsEnd, FindsExit};

@@ -1,4 +1,4 @@
-ghost use Rattle.std.specs.Prelude.{◌≡◌, ◌+◌, ◌<◌, ◌^◌, ◌↔◌, IsTrue, IfSome, length};
+ghost use Rattle.std.specs.Prelude.{◌≡◌, ◌+◌, ◌<◌, ◌^◌, ◌↔◌, IfSome, length};
 ghost use Rattle.two_d.specs.Ports.{IsNPort, IsWPort, IsSPort, IsEPort};
 ghost use Rattle.two_d.specs.Places as places;
 ghost use Rattle.two_d.specs.Places.{Covers};

@@ -1,8 +1,6 @@
-ghost use Rattle.std.specs.Prelude.{◌≡◌, ◌↔◌, ◌<◌, ◌+◌, ◌^◌, ℕ, IsTrue, MatchOption, map};
-ghost use Rattle.umix_base.specs.declared.place.Place as plain;
-ghost use Rattle.two_d.specs.Places.{IsSecondPlace};
+ghost use Rattle.std.specs.Prelude.{◌≡◌, ◌↔◌, ◌<◌, ◌+◌, ◌^◌, IsTrue};
 ghost use Rattle.two_d.specs.Clean.{ports_at};
-ghost use Rattle.two_d.specs.Reading.{Gives, each};
+ghost use Rattle.two_d.specs.Reading.{Gives};
 ghost use Rattle.grid_reader.specs.Boxes.{box_rect, Fits};
 ghost use Rattle.wire_trace.specs.Answers.{wire_fault_of};
 ghost use Rattle.wire_trace.specs.inner.Sheets.{drawing_in, IsSheet};

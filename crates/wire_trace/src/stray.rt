@@ -1,5 +1,4 @@
 ghost use Rattle.std.specs.Prelude.{◌≡◌, ◌↔◌, ◌<◌, ◌+◌, ◌^◌, IsTrue, MatchOption};
-ghost use Rattle.two_d.specs.Places as places;
 ghost use Rattle.umix_base.specs.declared.place.Place as plain;
 ghost use Rattle.two_d.specs.Places.{Within, IsFirstPlace};
 ghost use Rattle.wire_trace.specs.inner.Areas.{AreMarks, IsAreaOf};

@@ -1,5 +1,5 @@
-ghost use Rattle.std.specs.Prelude.{◌≡◌, ◌↔◌, IsTrue, [], ◌∷◌, MatchOption};
-ghost use Rattle.two_d.specs.Wires.{line, next, IsStraight, IsTurn, IsTaker, IsEnd, MayTurn, TurnsTo, GoesOn};
+ghost use Rattle.std.specs.Prelude.{◌≡◌, ◌↔◌, IsTrue, [], ◌∷◌};
+ghost use Rattle.two_d.specs.Wires.{line, next, IsStraight, IsTurn, IsTaker, IsEnd};
 ghost use Rattle.wire_trace.specs.inner.Positions.{HasNeighbours, direction_of, axis_in, position_of};
 ghost use Rattle.wire_trace.specs.inner.Sheets.{drawing_in, IsSheet, AreOwnersOf};
 ghost use Rattle.wire_trace.specs.inner.Ways.{AreOthers, TurnsOrStands, LeavesOrStands};

@@ -1,10 +1,13 @@
 -- A device of the proofs, which no public clause cites: reading from left to right, as functions
 -- on lists.
 use Rattle.std.specs.Char.{is_ascii_alphanumeric, is_ascii_digit, is_ascii_lowercase}
-use Rattle.std.specs.Prelude.{◌≡◌, ⊤, ℕ, zero, suc, ◌-◌, ◌≤◌, ◌||◌, ◌&&◌, ◌==◌, Bool, true, false, not, cond, nat_lt, List, [], ◌∷◌, length, take, drop, Option, Some, None, is_some, Result, Ok, Err}
+use Rattle.std.specs.Prelude.{◌≡◌, ⊤, ℕ, zero, suc, ◌-◌, ◌≤◌, ◌||◌, ◌&&◌, ◌==◌, Bool, true, false}
+use Rattle.std.specs.Prelude.{not, cond, nat_lt, List, [], ◌∷◌, length, take, drop, Option, Some}
+use Rattle.std.specs.Prelude.{None, is_some, Result, Ok, Err}
 use Rattle.two_d.proofs.Agree.{agree}
 use Rattle.two_d.proofs.Choices.{bytes_of, best}
-use Rattle.two_d.proofs.Heads.{Head, spelled, spelt, paren, paren_end, bracket, bracket_end, comma, north, west, left, right, south, east, send, case, of, split, called}
+use Rattle.two_d.proofs.Heads.{Head, spelled, spelt, paren, paren_end, bracket, bracket_end, comma}
+use Rattle.two_d.proofs.Heads.{north, west, left, right, south, east, send, case, of, split, called}
 use Rattle.two_d.proofs.Parts.{heads, side_of, others}
 use Rattle.two_d.specs.Trees as trees
 use Rattle.two_d.specs.Trees.{Tree, Form}
@@ -14,7 +17,9 @@ use Rattle.box_parse.specs.declared.fault.BoxFault.TheVariants as fault
 use Rattle.box_parse.specs.declared.stop.Stop.{Stop}
 use Rattle.box_parse.specs.declared.stop.Stop.TheVariants as stop
 use Rattle.box_parse.specs.declared.token.Token.{Token}
-use Rattle.box_parse.specs.declared.token.Token.TheVariants.{Paren, ParenEnd, Bracket, BracketEnd, Comma, North, West, Left, Right, South, East, Send, Case, Of, Split, Use}
+use Rattle.box_parse.specs.declared.token.Token.TheVariants.{Paren, ParenEnd, Bracket, BracketEnd}
+use Rattle.box_parse.specs.declared.token.Token.TheVariants.{Comma, North, West, Left, Right, South}
+use Rattle.box_parse.specs.declared.token.Token.TheVariants.{East, Send, Case, Of, Split, Use}
 
 -- the code's tokens
 abbrev pub head_of : Token → Head

@@ -24,7 +24,8 @@ value_code (inr a) = gcons (gnum 2) (value_code a)
 pub value_code-inj : (v w : Value) → value_code v ≡ value_code w → v ≡ w
 value_code-inj unit unit e = refl
 value_code-inj (pair a b) (pair c d) e =
-    λ i. pair (value_code-inj a c (ap (λ g. code_first (code_rest g)) e) i) (value_code-inj b d (ap (λ g. code_rest (code_rest g)) e) i)
+    λ i. pair (value_code-inj a c (ap (λ g. code_first (code_rest g)) e) i)
+    (value_code-inj b d (ap (λ g. code_rest (code_rest g)) e) i)
 value_code-inj (inl a) (inl b) e = ap inl (value_code-inj a b (ap code_rest e))
 value_code-inj (inr a) (inr b) e = ap inr (value_code-inj a b (ap code_rest e))
 value_code-inj _ _ e = absurd (cc)

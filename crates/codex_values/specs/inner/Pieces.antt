@@ -54,7 +54,8 @@ pub record Opens (nodes : List Shape) (piece : Piece) (old new : List Piece) (te
   pub places : ArePiecesIn nodes new
 
 -- all of the text was written but that of the stack
-pub record IsPrinting (nodes : List Shape) (stack : List Piece) (text : List ℕ) (old new : Option (List ℕ)) : Type 0 where
+pub record IsPrinting (nodes : List Shape) (stack : List Piece) (text : List ℕ)
+    (old new : Option (List ℕ)) : Type 0 where
   pub done : List ℕ
   pub whole : done ++ stack_text nodes stack ≡ text
   pub written : HasWritten done old new

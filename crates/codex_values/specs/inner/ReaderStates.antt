@@ -5,7 +5,8 @@ use Rattle.codex_values.specs.Value.{Value, unit, pair, inl, inr}
 use Rattle.codex_values.specs.Store.{value_at}
 use Rattle.codex_values.specs.declared.shape.Shape.{Shape}
 use Rattle.codex_values.specs.declared.read.Sign.{Sign}
-use Rattle.codex_values.specs.declared.read.Sign.TheVariants.{Space, Open, Close, Comma, LetterI, LetterN, LetterL, LetterR, Other}
+use Rattle.codex_values.specs.declared.read.Sign.TheVariants.{Space, Open, Close, Comma, LetterI}
+use Rattle.codex_values.specs.declared.read.Sign.TheVariants.{LetterN, LetterL, LetterR, Other}
 use Rattle.codex_values.specs.declared.read.Level.{Level}
 use Rattle.codex_values.specs.declared.read.Level.TheVariants.{Inl, Inr, Parens, Pair}
 use Rattle.codex_values.specs.declared.read.State.{State}
@@ -15,7 +16,8 @@ use Rattle.codex_values.specs.declared.read.State.TheVariants.{Need, Opened, Wor
 abbrev pub sign_of : ℕ → Sign
 sign_of c =
     if c == 32 then Space else (if c == 40 then Open else (if c == 41 then Close else (if c == 44 then Comma else
-    (if c == 73 then LetterI else (if c == 110 then LetterN else (if c == 108 then LetterL else (if c == 114 then LetterR else Other)))))))
+    (if c == 73 then LetterI else (if c == 110 then LetterN
+    else (if c == 108 then LetterL else (if c == 114 then LetterR else Other)))))))
 
 -- what an expression stands in: behind a word, in parentheses, or in a pair whose first part was read
 pub data Frame : Type 0 where

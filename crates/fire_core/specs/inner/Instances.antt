@@ -17,7 +17,8 @@ pub record InstancesView : Type 0 where
   pub trails : List TrailNode
 
 abbrev pub instances_view : List Shape → List TrailNode → List RowForm → InstancesView
-instances_view nodes trails rows = record { table = table_in (values_of nodes) (trails_of trails) rows; nodes = nodes; trails = trails }
+instances_view nodes trails rows = record
+    { table = table_in (values_of nodes) (trails_of trails) rows; nodes = nodes; trails = trails }
 
 abbrev pub one_if : Bool → ℕ
 one_if true = 1
@@ -43,4 +44,9 @@ pub record KeepsStores (old new : InstancesView) : Type 0 where
 
 -- what is seen of a core that has these instances and keeps this
 abbrev pub core_view : InstancesView → KeptView → CoreView
-core_view instances kept = record { table = instances.table; nodes = instances.nodes; trails = instances.trails; kept = kept }
+core_view instances kept = record {
+  table = instances.table;
+  nodes = instances.nodes;
+  trails = instances.trails;
+  kept = kept;
+}

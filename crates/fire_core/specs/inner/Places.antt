@@ -1,5 +1,6 @@
 -- Where the rows of instances stand: those of live ones in slots, those of ended ones in a list.
-use Rattle.std.specs.Prelude.{◌≡◌, ◌+◌, ◌<◌, ◌≤◌, ℕ, Bool, true, false, Option, Some, None, is_some, IsSomeAnd, List, length, map, count_by, slice_index_or}
+use Rattle.std.specs.Prelude.{◌≡◌, ◌+◌, ◌<◌, ◌≤◌, ℕ, Bool, true, false, Option, Some, None, is_some}
+use Rattle.std.specs.Prelude.{IsSomeAnd, List, length, map, count_by, slice_index_or}
 use Rattle.fire_core.specs.declared.rows.Place.{Place}
 use Rattle.fire_core.specs.declared.rows.Place.TheVariants.{Live, Ended}
 use Rattle.fire_core.specs.declared.rows.Row.{Row}

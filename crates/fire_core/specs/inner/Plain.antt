@@ -4,7 +4,8 @@ use Rattle.std.specs.Option.{option_map}
 use Rattle.codex_values.specs.Value.{Value}
 use Rattle.two_d.specs.declared.module.Origin.{Origin}
 use Rattle.two_d.specs.Meaning as mean
-use Rattle.two_d.specs.Meaning.{Meaning, Answers, act, cell_of, is_known, firings_of, instances_of, test_of, count_of, all_below, sum_below}
+use Rattle.two_d.specs.Meaning.{Meaning, Answers, act, cell_of, is_known, firings_of, instances_of}
+use Rattle.two_d.specs.Meaning.{test_of, count_of, all_below, sum_below}
 use Rattle.two_d.specs.Programs.{Program}
 use Rattle.two_d.specs.Steps.{wires}
 use Rattle.two_d.specs.Texts.{IsPlaceIn, outcome_in}

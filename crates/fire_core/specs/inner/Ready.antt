@@ -21,12 +21,14 @@ is_quiet P x n = all_below n (λ b. not (can_fire P x b))
 -- its end, if no box can fire and no inner instance is left
 abbrev pub end_events : Program → Table → ℕ → List Event
 end_events P T i =
-    if is_quiet P (instance_at T i) (box_count P (instance_at T i).kind) && (inner_count i T == 0) then End i ∷ [] else []
+    if is_quiet P (instance_at T i) (box_count P (instance_at T i).kind) && (inner_count i T == 0)
+    then End i ∷ [] else []
 
 -- all that is ready of an instance
 abbrev pub ready_of : Program → Table → ℕ → List Event
 ready_of P T i =
-    if is_live (instance_at T i) then fires_of P (instance_at T i) i (box_count P (instance_at T i).kind) ++ end_events P T i else []
+    if is_live (instance_at T i) then fires_of P (instance_at T i) i
+    (box_count P (instance_at T i).kind) ++ end_events P T i else []
 
 -- all that is ready of the first n instances
 abbrev pub ready_below : Program → Table → ℕ → List Event

@@ -36,14 +36,25 @@ row_of row = record {
 
 -- what stands where a number names no row
 abbrev pub no_row : RowForm
-no_row = record { kind = 0; parent = None; north = None; west = None; cells = []; inner = 0; outcome = Some (StuckKept 0) }
+no_row = record {
+  kind = 0;
+  parent = None;
+  north = None;
+  west = None;
+  cells = [];
+  inner = 0;
+  outcome = Some (StuckKept 0);
+}
 
 abbrev pub row_at : List RowForm → ℕ → RowForm
 row_at rows i = slice_index_or rows i no_row
 
 -- the values at two places
 abbrev pub inputs_in : List Value → Option ℕ → Option ℕ → Inputs
-inputs_in values north west = record { north = option_map (value_in values) north; west = option_map (value_in values) west }
+inputs_in values north west = record {
+  north = option_map (value_in values) north;
+  west = option_map (value_in values) west;
+}
 
 abbrev pub cell_in : List Value → List Trail → Cell → mean.Cell
 cell_in values trails cell = record {

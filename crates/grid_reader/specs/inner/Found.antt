@@ -1,5 +1,6 @@
 -- What a search has found, and how its table of columns tells where the next figure may stand.
-use Rattle.std.specs.Prelude.{◌≡◌, ℕ, ◌-◌, ◌<◌, ◌≤◌, ◌⊎◌, List, [], map, All, Contains, Ok, Option, Some, None, MatchOption, option_map, slice_index_or}
+use Rattle.std.specs.Prelude.{◌≡◌, ℕ, ◌-◌, ◌<◌, ◌≤◌, ◌⊎◌, List, [], map, All, Contains, Ok, Option}
+use Rattle.std.specs.Prelude.{Some, None, MatchOption, option_map, slice_index_or}
 use Rattle.umix_base.specs.declared.place.Place.{Place}
 use Rattle.two_d.specs.Places.{Rect, ShareACell, corner_of}
 use Rattle.two_d.specs.Figures.{AreLiveAmong}

@@ -1,5 +1,7 @@
 -- The modules of a grid as the code keeps them, and the places where they are drawn.
-use Rattle.std.specs.Prelude.{◌≡◌, ◌↔◌, ◌+◌, ◌-◌, ◌*◌, ◌<◌, ℕ, false, List, [], length, map, slice_get, is_some, Result, Ok, Option, Some, None, MatchResult, Contains}
+use Rattle.std.specs.Prelude.{◌≡◌, ◌↔◌, ◌+◌, ◌-◌, ◌*◌, ◌<◌, ℕ, false, List, [], length, map}
+use Rattle.std.specs.Prelude.{slice_get, is_some, Result, Ok, Option, Some, None, MatchResult}
+use Rattle.std.specs.Prelude.{Contains}
 use Rattle.umix_base.specs.declared.place.Place.{Place}
 use Rattle.two_d.specs.Places.{Rect, corner_of}
 use Rattle.two_d.specs.Clean.{WireForm}

@@ -19,7 +19,8 @@ tree_code-inj unit unit e = refl
 tree_code-inj n n e = refl
 tree_code-inj w w e = refl
 tree_code-inj (pair a b) (pair c d) e =
-    λ i. pair (tree_code-inj a c (ap (λ g. code_first (code_rest g)) e) i) (tree_code-inj b d (ap (λ g. code_rest (code_rest g)) e) i)
+    λ i. pair (tree_code-inj a c (ap (λ g. code_first (code_rest g)) e) i)
+    (tree_code-inj b d (ap (λ g. code_rest (code_rest g)) e) i)
 tree_code-inj (inl a) (inl b) e = ap inl (tree_code-inj a b (ap code_rest e))
 tree_code-inj (inr a) (inr b) e = ap inr (tree_code-inj a b (ap code_rest e))
 tree_code-inj _ _ e = absurd (cc)

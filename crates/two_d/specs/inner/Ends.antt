@@ -20,7 +20,9 @@ end_number m (Exit i) = length m.boxes + length m.boxes + i
 abbrev pub origin_at : ModuleForm → ℕ → Option Origin
 origin_at m k =
     if nat_lt k (length m.boxes) then unwrap_or (option_map (λ (row : BoxForm). row.n) (slice_get m.boxes k)) None
-    else if nat_lt k (length m.boxes + length m.boxes) then unwrap_or (option_map (λ (row : BoxForm). row.w) (slice_get m.boxes (k - length m.boxes))) None
+    else if nat_lt k (length m.boxes + length m.boxes)
+    then unwrap_or (option_map (λ (row : BoxForm). row.w)
+    (slice_get m.boxes (k - length m.boxes))) None
     else unwrap_or (slice_get m.exits (k - length m.boxes - length m.boxes)) None
 
 -- the first n ends have wires that begin where something is

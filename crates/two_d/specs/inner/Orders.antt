@@ -1,5 +1,7 @@
 -- How an order of a module's boxes is made: what is placed, and which boxes could stand next.
-use Rattle.std.specs.Prelude.{◌≡◌, ◌≢◌, ℕ, ◌<◌, ◌≤◌, ◌⊎◌, ◌↔◌, ◌++◌, Bool, true, false, IsTrue, List, [], ◌∷◌, length, slice_index_or, slice_set, slice_get, Option, Some, None, MatchOption, Vec}
+use Rattle.std.specs.Prelude.{◌≡◌, ◌≢◌, ℕ, ◌<◌, ◌≤◌, ◌⊎◌, ◌↔◌, ◌++◌, Bool, true, false, IsTrue}
+use Rattle.std.specs.Prelude.{List, [], ◌∷◌, length, slice_index_or, slice_set, slice_get, Option}
+use Rattle.std.specs.Prelude.{Some, None, MatchOption, Vec}
 use Rattle.std.specs.Global.{Global}
 use Rattle.std.specs.BTreeSet.{BTreeSet, contains}
 use Rattle.std.specs.Option.{unwrap_or, option_map}

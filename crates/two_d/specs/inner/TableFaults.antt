@@ -3,7 +3,9 @@ use Rattle.std.specs.Prelude.{Option, Some, None}
 use Rattle.two_d.specs.Table as wrong
 use Rattle.two_d.specs.Table.{Wrong}
 use Rattle.two_d.specs.declared.table.TableFault.{TableFault}
-use Rattle.two_d.specs.declared.table.TableFault.TheVariants.{SameName, NoMain, MainHasInput, NoModule, BadInputs, Unwired, Cycle, Memory}
+use Rattle.two_d.specs.declared.table.TableFault.TheVariants.{SameName, NoMain, MainHasInput}
+use Rattle.two_d.specs.declared.table.TableFault.TheVariants.{NoModule, BadInputs, Unwired, Cycle}
+use Rattle.two_d.specs.declared.table.TableFault.TheVariants.{Memory}
 
 -- what is wrong by a refusal; want of memory is nothing
 abbrev pub wrong_of : TableFault → Option Wrong

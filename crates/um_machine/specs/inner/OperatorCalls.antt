@@ -1,5 +1,6 @@
 -- What the machine's own calls of one cycle say, by the row of the operator. Public clauses are in Runs.
-use Rattle.std.specs.Prelude.{◌≡◌, ℕ, ◌+◌, ◌⊎◌, List, [], ◌∷◌, Option, Some, None, Result, Ok, Err, OnOk, OnErr, slice_index}
+use Rattle.std.specs.Prelude.{◌≡◌, ℕ, ◌+◌, ◌⊎◌, List, [], ◌∷◌, Option, Some, None, Result, Ok, Err}
+use Rattle.std.specs.Prelude.{OnOk, OnErr, slice_index}
 use Rattle.um_word.specs.declared.op.Op.{Op}
 use Rattle.um_word.specs.declared.op.Op.TheVariants.{Input, Load}
 use Rattle.um_word.specs.Table.{Next, Goes, Stops, row, op_under}
@@ -31,8 +32,10 @@ Wrote stop nothing byte = nothing
 
 -- An answer and what it leaves, by what the cycle comes to: the machine, the rest of the input, and what
 -- the sink held before and holds now.
-abbrev pub AnswersRow : Option Op → MachineView → List ℕ → Option (List ℕ) → Option (List ℕ) → Next → Result Turn Stop → Type 0
-AnswersRow op new left before now (Goes t) (Ok turn) = (turn ≡ turn_of t.halted) × (t ≡ state_of new left t.out) × MayHold now t.out
+abbrev pub AnswersRow : Option Op → MachineView → List ℕ → Option (List ℕ) → Option (List ℕ) →
+    Next → Result Turn Stop → Type 0
+AnswersRow op new left before now (Goes t) (Ok turn) = (turn ≡ turn_of t.halted) ×
+    (t ≡ state_of new left t.out) × MayHold now t.out
 AnswersRow op new left before now (Goes t) (Err stop) = MayFail op stop × Wrote stop (now ≡ before) (MayHold now t.out)
 AnswersRow op new left before now (Stops fault) (Ok turn) = ⊥
 AnswersRow op new left before now (Stops fault) (Err stop) = (stop ≡ stop_of fault) × (now ≡ before)

@@ -1,5 +1,6 @@
 -- The cells of a frame by their numbers, and the tables over them.
-use Rattle.std.specs.Prelude.{◌≡◌, ℕ, ◌+◌, ◌-◌, ◌*◌, ◌<◌, ◌≤◌, ◌⊎◌, ◌↔◌, Bool, true, false, [], ◌∷◌, IsTrue, List, length, slice_index_or, slice_get, Option, Some, None}
+use Rattle.std.specs.Prelude.{◌≡◌, ℕ, ◌+◌, ◌-◌, ◌*◌, ◌<◌, ◌≤◌, ◌⊎◌, ◌↔◌, Bool, true, false, [], ◌∷◌}
+use Rattle.std.specs.Prelude.{IsTrue, List, length, slice_index_or, slice_get, Option, Some, None}
 use Rattle.umix_base.specs.declared.place.Place.{Place}
 use Rattle.two_d.specs.Places.{at, Rect, Covers, corner_of}
 use Rattle.wire_trace.specs.declared.area.Area.{Area}
@@ -88,5 +89,7 @@ pub record Gets (a : Area) (old new : Owners) (number : ℕ) (Which : Place → 
 
 -- each cell has the box that covers it, of the first n
 pub record AreOwners (boxes : List Rect) (n : ℕ) (owners : Owners) : Type 0 where
-  pub some : (p : Place) (i : ℕ) → IsIn owners.area p → owner_of owners p ≡ Some i → (b : Rect) × (i < n) × (slice_get boxes i ≡ Some b) × Covers b p
-  pub none : (p : Place) (i : ℕ) (b : Rect) → IsIn owners.area p → owner_of owners p ≡ None → i < n → slice_get boxes i ≡ Some b → Covers b p → ⊥
+  pub some : (p : Place) (i : ℕ) → IsIn owners.area p → owner_of owners p ≡ Some i → (b : Rect) ×
+      (i < n) × (slice_get boxes i ≡ Some b) × Covers b p
+  pub none : (p : Place) (i : ℕ) (b : Rect) → IsIn owners.area p → owner_of owners p ≡ None →
+      i < n → slice_get boxes i ≡ Some b → Covers b p → ⊥

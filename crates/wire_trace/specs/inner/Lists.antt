@@ -23,4 +23,5 @@ pub record AreTraced (m : Drawing) (starts : List Position) (marks : Marks) (wir
 -- the wires, or the first fault
 abbrev pub ListAnswers : Drawing → List Position → Result (Vec Wire Global) WireFault → Marks → Type 0
 ListAnswers m starts result marks =
-    MatchResult result (λ wires. AreTraced m starts marks wires) (λ e. Refuses (each_after (wire_at m) [] starts) (wire_fault_of e))
+    MatchResult result (λ wires. AreTraced m starts marks wires)
+    (λ e. Refuses (each_after (wire_at m) [] starts) (wire_fault_of e))

@@ -13,7 +13,12 @@ use Rattle.wire_trace.specs.inner.Areas.{IsAreaOf, AreNumbers, AreOwners}
 
 -- the drawing that is lent
 abbrev pub drawing_in : Sheet → Drawing
-drawing_in s = record { grid = s.grid.now; frame = rect_of s.frame.now; name_length = s.name; boxes = map box_rect s.boxes.now }
+drawing_in s = record {
+  grid = s.grid.now;
+  frame = rect_of s.frame.now;
+  name_length = s.name;
+  boxes = map box_rect s.boxes.now;
+}
 
 -- the frame has an interior on the grid, in which the boxes lie, no two of which share a cell
 pub record IsLaidOut (m : Drawing) : Type 0 where
@@ -24,12 +29,14 @@ pub record IsLaidOut (m : Drawing) : Type 0 where
   pub narrow : m.frame.right ≤ 4096
   pub few : m.frame.bottom ≤ 262145
   pub fit : (i : ℕ) (b : Rect) → slice_get m.boxes i ≡ Some b → Fits m.frame b
-  pub apart : (i j : ℕ) (a b : Rect) → slice_get m.boxes i ≡ Some a → slice_get m.boxes j ≡ Some b → ShareACell a b → i ≡ j
+  pub apart : (i j : ℕ) (a b : Rect) → slice_get m.boxes i ≡ Some a → slice_get m.boxes j ≡ Some b →
+      ShareACell a b → i ≡ j
 
 -- what is lent is laid out, and the frame has the entries and the exits of its borders
 pub record IsSheet (s : Sheet) : Type 0 where
   pub laid : IsLaidOut (drawing_in s)
-  pub north : (p : Place) → IsNorthEntry (drawing_in s) p ↔ ((p.row ≡ s.frame.now.top) × (s.frame.now.north ≡ Some p.col))
+  pub north : (p : Place) → IsNorthEntry (drawing_in s) p ↔ ((p.row ≡ s.frame.now.top) ×
+      (s.frame.now.north ≡ Some p.col))
   pub west : (p : Place) → IsWestEntry (drawing_in s) p ↔ ((p.col ≡ s.frame.now.left) × (s.frame.now.west ≡ Some p.row))
   pub exits : s.frame.now.exits.items ≡ exits_of s.grid.now (rect_of s.frame.now)
 

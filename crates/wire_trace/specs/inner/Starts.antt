@@ -16,7 +16,8 @@ pub record IsStartAt (m : Drawing) (p : Place) (start : Start) : Type 0 where
 
 -- the start at a place was found, or no wire begins there
 abbrev pub FindsStart : Drawing → Place → Option Start → Type 0
-FindsStart m p found = MatchOption found ((s : Position) (o : Origin) → s.place ≡ p → StartsAt m s o → ⊥) (IsStartAt m p)
+FindsStart m p found = MatchOption found ((s : Position) (o : Origin) → s.place ≡ p →
+    StartsAt m s o → ⊥) (IsStartAt m p)
 
 -- the positions of starts
 abbrev pub positions_of : List Start → List Position

@@ -13,7 +13,8 @@ use Rattle.wire_trace.specs.inner.Ways.{IsOccupied}
 
 -- a cell is occupied on an axis exactly where some trace passes it on that axis
 abbrev pub AreOccupied : Drawing → Marks → List Trace → Type 0
-AreOccupied m marks traces = (t : Position) → Covers m.frame t.place → IsOccupied marks t ↔ Any (Any (Collide m t)) traces
+AreOccupied m marks traces = (t : Position) → Covers m.frame t.place →
+    IsOccupied marks t ↔ Any (Any (Collide m t)) traces
 
 -- the trace of a wire, after earlier ones, which ends at an end and has been marked
 pub record IsTraced (m : Drawing) (earlier : List Trace) (start : Position) (end : To) (marks : Marks) : Type 0 where
@@ -27,4 +28,5 @@ pub record IsTraced (m : Drawing) (earlier : List Trace) (start : Position) (end
 -- the end of the wire, or its first fault
 abbrev pub TraceAnswers : Drawing → List Trace → Position → Result To WireFault → Marks → Type 0
 TraceAnswers m earlier start result marks =
-    MatchResult result (λ end. IsTraced m earlier start end marks) (λ e. Refuses (wire_at m earlier start) (wire_fault_of e))
+    MatchResult result (λ end. IsTraced m earlier start end marks)
+    (λ e. Refuses (wire_at m earlier start) (wire_fault_of e))

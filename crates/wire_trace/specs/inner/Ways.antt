@@ -24,7 +24,8 @@ TurnsOrStands m s found = MatchOption found ((d : Direction) → TurnsTo m s d �
 
 -- the direction in which the wire goes on was found, or it stands at a turn
 abbrev pub LeavesOrStands : Drawing → Position → Option code.Direction → Type 0
-LeavesOrStands m s found = MatchOption found (IsTurn m s × GoesOn m s []) (λ d. GoesOn m s (next s (direction_of d) ∷ []))
+LeavesOrStands m s found = MatchOption found (IsTurn m s × GoesOn m s [])
+    (λ d. GoesOn m s (next s (direction_of d) ∷ []))
 
 -- the cell of a position is occupied on its axis
 abbrev pub IsOccupied : Marks → Position → Type 0
