@@ -18,6 +18,18 @@ pub record Call : Type 0 where
   pub err_now : Stream
   pub status : Status
 
+-- the call of these words, with all that was before it and after it
+abbrev pub call_of :
+    List (List ℕ) → (before now : Outside) → (err_before err_now : Stream) → Status → Call
+call_of words before now err_before err_now status = record {
+  words = words;
+  before = before;
+  now = now;
+  err_before = err_before;
+  err_now = err_now;
+  status = status;
+}
+
 -- the call is one of `codex`, whose contract says this of it
 pub record IsOfCodex (c : Call) : Type 0 where
   pub does : Does c.words c.before c.now c.err_before c.err_now c.status

@@ -5,7 +5,7 @@ ghost use Rattle.codex_top.specs.Outside.{outside, told, IsCounted};
 ghost use Rattle.codex_top.specs.Words.{IsAllowed};
 ghost use Rattle.codex_top.specs.Jobs.{work_of};
 ghost use Rattle.codex_top.specs.Endings.{IsTold};
-ghost use Rattle.codex_top.specs.Calls.{IsOfCodex};
+ghost use Rattle.codex_top.specs.Calls.{IsOfCodex, call_of};
 ghost use Rattle.codex_top.specs.Commands.{Does, Ends, JobEnds};
 
 use crate::Status;
@@ -46,14 +46,9 @@ pub fn codex<F: Shelf, I: Source, O: Sink, E: Sink>(
     ensures counted { let seen = outside F.Shelf I.Source O.Sink in
         IsCounted (seen shelf.old input.old out.old) (seen shelf.new input.new out.new) }
     ensures call { let seen = outside F.Shelf I.Source O.Sink in
-        IsOfCodex (record {
-          words = map string_bytes words.now.items;
-          before = seen shelf.old input.old out.old;
-          now = seen shelf.new input.new out.new;
-          err_before = told E.Sink err.old;
-          err_now = told E.Sink err.new;
-          status = result;
-        }) }
+        IsOfCodex (call_of (map string_bytes words.now.items)
+        (seen shelf.old input.old out.old) (seen shelf.new input.new out.new)
+        (told E.Sink err.old) (told E.Sink err.new) result) }
 {
     let end = end_of_words(alloc, words, shelf, input, out);
     tell(end, err)

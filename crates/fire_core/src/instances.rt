@@ -9,7 +9,7 @@ ghost use Rattle.two_d.specs.Steps.{IsStateOf, instance_at, is_live, is_ready};
 ghost use Rattle.two_d.specs.Texts.{outcome_in};
 ghost use Rattle.two_d.specs.Trails.{trails_of};
 ghost use Rattle.fire_core.specs.inner.Acts.{effect_in, EffectFits};
-ghost use Rattle.fire_core.specs.inner.Instances.{inner_count, KeepsStores};
+ghost use Rattle.fire_core.specs.inner.Instances.{inner_count, delivered, KeepsStores};
 ghost use Rattle.fire_core.specs.inner.Look.{inputs_at, InputsFit};
 ghost use Rattle.fire_core.specs.Events.{event_of};
 ghost use Rattle.fire_core.specs.inner.Rows.{CellFits, OutcomeFits, RowFits, cell_in, instance_in, row_of};
@@ -245,11 +245,8 @@ impl Instances {
         requires parent { (instance_at self.old.table number).parent ≡ Some (above, bx) }
         requires earlier { above < number }
         requires has { bx < length (instance_at self.old.table above).cells }
-        ensures ok { OnOk result (self.new.table
-            ≡ steps.set_cell (slice_set self.old.table number
-            (steps.ended (instance_at self.old.table number)
-            (outcome_in (values_of self.old.nodes) (trails_of self.old.trails) outcome))) above bx
-            (mean.returned (instance_at self.old.table above).kind bx (outcome_in (values_of self.old.nodes) (trails_of self.old.trails) outcome))) }
+        ensures ok { OnOk result (self.new.table ≡ delivered self.old.table number above bx
+            (outcome_in (values_of self.old.nodes) (trails_of self.old.trails) outcome)) }
         ensures err { OnErr result (self.new.table ≡ self.old.table) }
         ensures keeps { KeepsStores self.old self.new }
     {

@@ -5,9 +5,10 @@ ghost use Rattle.codex_values.specs.Value.{Value};
 ghost use Rattle.two_d.specs.Meaning.{Meaning, Outcome, look_of, mean};
 ghost use Rattle.two_d.specs.Programs.{Program};
 ghost use Rattle.two_d.specs.Steps.{Choice, Event, Table, EachReady, HasMeaning, HasNoOutcome};
-ghost use Rattle.two_d.specs.Steps.{IsStateOf, after, events_of, fires_in, instance_at, is_live};
+ghost use Rattle.two_d.specs.Steps.{IsStateOf, after, events_of, instance_at, is_live};
 ghost use Rattle.two_d.specs.Steps.{is_ready, start, step, wires};
 ghost use Rattle.two_d.specs.declared.module.Origin.{Origin};
+ghost use Rattle.fire_core.specs.Events.{AreAsCounted};
 
 /// In whatever order ready events are made: where instance 0 has ended, its outcome is the program's,
 /// with its firings and instances; where it hasn't, an event is ready, and fewer were made than that.
@@ -16,8 +17,7 @@ pub fn every_order_agrees()
         → (r : Meaning) × HasMeaning P r × (r.outcome ≡ o) }
     ensures counts { (P : Program) (r : Meaning) (events : List Event) → HasMeaning P r → EachReady P (start P) events
         → is_live (instance_at (after P (start P) events) 0) ≡ false
-        → (fires_in events ≡ r.firings) × (length (after P (start P) events) ≡ r.instances) ×
-        (length events ≡ r.firings + r.instances) }
+        → AreAsCounted P r events }
     ensures shorter { (P : Program) (r : Meaning) (events : List Event) → HasMeaning P r → EachReady P (start P) events
         → is_live (instance_at (after P (start P) events) 0) ≡ true → length events < r.firings + r.instances }
     ensures no_longer { (P : Program) (r : Meaning) (events : List Event) → HasMeaning P r →

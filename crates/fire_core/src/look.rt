@@ -8,7 +8,7 @@ ghost use Rattle.two_d.specs.Programs.{Program, box_of, box_at};
 ghost use Rattle.two_d.specs.Meaning as mean;
 ghost use Rattle.two_d.specs.Steps as steps;
 ghost use Rattle.two_d.specs.Trails.{Trail};
-ghost use Rattle.fire_core.specs.inner.Look.{input_at, inputs_at, InputFits, InputsFit};
+ghost use Rattle.fire_core.specs.inner.Look.{input_at, inputs_at, may_fire, InputFits, InputsFit};
 ghost use Rattle.fire_core.specs.inner.Rows.{row_of, instance_in, IsPlace, RowFits};
 
 use crate::rows::Row;
@@ -98,8 +98,7 @@ pub(crate) fn can_fire(row: &Row, bx: &BoxRow, number: usize) -> bool
 pub(crate) fn is_box_ready(row: &Row, bx: &BoxRow, number: usize) -> bool
     ensures { (P : Program) (values : List Value) (trails : List Trail) →
         box_at P row.now.kind number ≡ Some (box_of bx.now)
-        → result ≡ (steps.is_live (instance_in values trails (row_of row.now))
-        && steps.can_fire P (instance_in values trails (row_of row.now)) number) }
+        → result ≡ may_fire P (instance_in values trails (row_of row.now)) number }
 {
     row.outcome.is_none() && can_fire(row, bx, number)
 }

@@ -9,7 +9,8 @@ ghost use Rattle.two_d.specs.Programs.{Program, module_of, module_at, box_count}
 ghost use Rattle.two_d.specs.Steps as steps;
 ghost use Rattle.two_d.specs.Texts.{outcome_in};
 ghost use Rattle.two_d.specs.Trails.{Trail, KeepsTrails, trail_in, trail_of, trails_of};
-ghost use Rattle.fire_core.specs.inner.Outcomes.{IsCarried, CarriedFits, TrailFits, value_listed};
+ghost use Rattle.fire_core.specs.inner.Outcomes.{IsCarried, IsEndOf, CarriedFits, TrailFits};
+ghost use Rattle.fire_core.specs.inner.Outcomes.{value_listed};
 ghost use Rattle.fire_core.specs.inner.Rows.{row_of, instance_in, cell_in, CellFits, IsPlace, OutcomeFits, RowFits};
 
 use crate::act::Spot;
@@ -34,8 +35,8 @@ pub(crate) fn outcome_of(
 ) -> Result<Outcome, Memory>
     ensures outcome { (P : Program) (values : List Value) → module_at P row.now.kind ≡ module_of «module».now
         → length row.now.cells.items ≡ box_count P row.now.kind
-        → IfOk result (λ outcome. outcome_in values (trails_of trails.new) outcome
-        ≡ steps.end_of P (instance_in values (trails_of trails.old) (row_of row.now))) }
+        → IfOk result (IsEndOf P values (trails_of trails.old) (trails_of trails.new)
+        (row_of row.now)) }
     ensures fits { (n : ℕ) → RowFits n (length trails.old) (row_of row.now)
         → IfOk result (λ outcome. OutcomeFits n (length trails.new) (Some outcome)) }
     ensures keeps { KeepsTrails trails.old trails.new }

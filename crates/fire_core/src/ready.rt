@@ -1,14 +1,9 @@
 //! What is ready of one instance.
 
-ghost use Rattle.std.specs.Prelude.{◌≡◌, ◌<◌, ◌^◌, ◌++◌, List, Some, map, length, OnOk};
-ghost use Rattle.codex_values.specs.Value.{Value};
-ghost use Rattle.two_d.specs.Programs.{Program, box_of, box_at, module_at};
-ghost use Rattle.two_d.specs.Steps.{Table, instance_at};
-ghost use Rattle.two_d.specs.Trails.{Trail};
+ghost use Rattle.std.specs.Prelude.{◌≡◌, ◌<◌, ◌^◌, ◌++◌, length};
 ghost use Rattle.fire_core.specs.Events.{events_shown};
-ghost use Rattle.fire_core.specs.inner.Instances.{inner_count};
-ghost use Rattle.fire_core.specs.inner.Ready.{fire_of, fires_of, ready_of};
-ghost use Rattle.fire_core.specs.inner.Rows.{row_of, instance_in};
+ghost use Rattle.fire_core.specs.inner.Ready.{AddsFire, AddsFires, AddsReady};
+ghost use Rattle.fire_core.specs.inner.Rows.{row_of};
 
 use crate::event::Event;
 use crate::look::can_fire;
@@ -24,11 +19,8 @@ pub(crate) fn add_ready(
     events: &mut Vec<Event>,
 ) -> Result<(), Memory>
     requires { length boxes.now < 2 ^ 32 }
-    ensures added { (P : Program) (T : Table) (values : List Value) (trails : List Trail)
-        → instance_at T number ≡ instance_in values trails (row_of row.now) →
-        (module_at P row.now.kind).boxes ≡ map box_of boxes.now
-        → row.now.inner ≡ inner_count number T
-        → OnOk result (events_shown events.new.items ≡ events_shown events.old.items ++ ready_of P T number) }
+    ensures added { AddsReady (row_of row.now) boxes.now number
+        (events_shown events.old.items) (events_shown events.new.items) result }
 {
     if row.outcome.is_some() {
         return Ok(());
@@ -53,10 +45,8 @@ fn add_fires(
     events: &mut Vec<Event>,
 ) -> Result<(), Memory>
     requires { length boxes.now < 2 ^ 32 }
-    ensures added { (P : Program) (values : List Value) (trails : List Trail) →
-        (module_at P row.now.kind).boxes ≡ map box_of boxes.now
-        → OnOk result (events_shown events.new.items ≡ events_shown events.old.items
-        ++ fires_of P (instance_in values trails (row_of row.now)) number (length boxes.now)) }
+    ensures added { AddsFires (row_of row.now) boxes.now number
+        (events_shown events.old.items) (events_shown events.new.items) result }
 {
     for bx in 0..boxes.len() {
         add_fire(row, &boxes[bx], number, bx as u32, events)?;
@@ -72,10 +62,8 @@ fn add_fire(
     place: u32,
     events: &mut Vec<Event>,
 ) -> Result<(), Memory>
-    ensures added { (P : Program) (values : List Value) (trails : List Trail) →
-        box_at P row.now.kind place ≡ Some (box_of bx.now)
-        → OnOk result (events_shown events.new.items ≡ events_shown events.old.items
-        ++ fire_of P (instance_in values trails (row_of row.now)) number place) }
+    ensures added { AddsFire (row_of row.now) bx.now number place
+        (events_shown events.old.items) (events_shown events.new.items) result }
 {
     if can_fire(row, bx, place as usize) {
         events.push(Event::Fire(number as u64, place))?;

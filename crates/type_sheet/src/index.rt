@@ -1,11 +1,10 @@
 //! Rows by what they declare.
 
-ghost use Rattle.std.specs.Prelude.{◌≡◌, ℕ, ◌<◌, ◌⊎◌, take, None, Some, IfOk, MatchOption};
-ghost use Rattle.std.specs.Prelude.{slice_get};
+ghost use Rattle.std.specs.Prelude.{◌≡◌, ◌<◌, ◌⊎◌, take, None, Some, IfOk, MatchOption};
 ghost use Rattle.two_d.specs.declared.command.Side.TheVariants.{S, E};
 ghost use Rattle.type_sheet.specs.declared.line.SheetRow.{SheetRow};
 ghost use Rattle.type_sheet.specs.Sheets.{Subject as SubjectForm, port, expression, subject_of};
-ghost use Rattle.type_sheet.specs.inner.Subjects.{key_read, place_in, place_of};
+ghost use Rattle.type_sheet.specs.inner.Subjects.{FindsAgain, key_read, place_in, place_of};
 
 use crate::line::{Line, SheetRow};
 use std::alloc::{AllocError, Global};
@@ -62,13 +61,7 @@ impl<'a> Index<'a> {
         alloc: Global,
         rows: &'a [SheetRow],
     ) -> Result<(Index<'a>, Option<usize>), AllocError>
-        ensures again { IfOk result (λ found. MatchOption found.1
-            ((i : ℕ) (row : SheetRow) → slice_get rows.now i ≡ Some row →
-            place_of (take i rows.now) (subject_of row.line) ≡ None)
-            (λ i. (row : SheetRow) × (slice_get rows.now i ≡ Some row)
-            × ((place_of (take i rows.now) (subject_of row.line) ≡ None) → ⊥)
-            × ((j : ℕ) (other : SheetRow) → j < i → slice_get rows.now j ≡ Some other →
-            place_of (take j rows.now) (subject_of other.line) ≡ None))) }
+        ensures again { IfOk result (λ found. FindsAgain rows.now found.1) }
         ensures places { IfOk result (λ found. MatchOption found.1
             ((s : SubjectForm) → place_in found.0.places s ≡ place_of rows.now s)
             (λ i. (s : SubjectForm) → place_in found.0.places s ≡ place_of (take i rows.now) s)) }

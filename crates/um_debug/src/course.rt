@@ -3,9 +3,8 @@
 ghost use Rattle.std.specs.Prelude.{◌≡◌, ◌≤◌, ◌<◌, ◌^◌, ◌+◌, Ok, Err};
 ghost use Rattle.um_machine.specs.Outside.{IsAsked, IsFed};
 ghost use Rattle.um_machine.specs.MachineView.{IsWhole};
-ghost use Rattle.um_machine.specs.Runs.{seen_by, GoesFromTo};
 ghost use Rattle.um_debug.specs.Course.{no_points};
-ghost use Rattle.um_debug.specs.inner.Calls.{Course, came_by, InputRose, OutputRose};
+ghost use Rattle.um_debug.specs.inner.Calls.{ComesTo, Course, came_by};
 
 use crate::command::WordPlace;
 use crate::debugger::DebugEnd;
@@ -37,10 +36,9 @@ pub(crate) fn step<I: Source, O: Sink>(
 ) -> Result<Came, DebugEnd>
     requires some { 1 ≤ cycles }
     requires fit { machine.old.cycles + cycles < 2 ^ 64 }
-    ensures course { let seen = seen_by I.Source O.Sink in
-        GoesFromTo (seen machine.old input.old out.old) (seen machine.new input.new out.new)
-        (λ s t. Course no_points cycles (InputRose I.Source input.old input.new)
-        (OutputRose O.Sink out.old out.new) machine.old machine.new s t result) }
+    ensures course { ComesTo I.Source O.Sink machine.old machine.new
+        input.old input.new out.old out.new
+        (λ input output s t. Course no_points cycles input output machine.old machine.new s t result) }
     ensures counted { machine.new.cycles ≤ machine.old.cycles + cycles }
     ensures limits { machine.new.limits ≡ machine.old.limits }
     ensures whole { IsWhole machine.new }
@@ -64,10 +62,9 @@ pub(crate) fn go<I: Source, O: Sink>(
 ) -> Result<Came, DebugEnd>
     requires some { 1 ≤ cycles }
     requires fit { machine.old.cycles + cycles < 2 ^ 64 }
-    ensures course { let seen = seen_by I.Source O.Sink in
-        GoesFromTo (seen machine.old input.old out.old) (seen machine.new input.new out.new)
-        (λ s t. Course points.now cycles (InputRose I.Source input.old input.new)
-        (OutputRose O.Sink out.old out.new) machine.old machine.new s t result) }
+    ensures course { ComesTo I.Source O.Sink machine.old machine.new
+        input.old input.new out.old out.new
+        (λ input output s t. Course points.now cycles input output machine.old machine.new s t result) }
     ensures counted { machine.new.cycles ≤ machine.old.cycles + cycles }
     ensures limits { machine.new.limits ≡ machine.old.limits }
     ensures whole { IsWhole machine.new }

@@ -3,13 +3,13 @@
 ghost use Rattle.std.specs.Prelude.{◌≡◌, ◌≤◌, ◌<◌, ◌+◌, ◌^◌, ◌==◌, ◌++◌, Err, IfOk, Some, codes};
 ghost use Rattle.std.specs.Prelude.{decimal, nat_le};
 ghost use Rattle.um_machine.specs.Outside.{IsAsked, IsFed};
-ghost use Rattle.um_machine.specs.Runs.{seen_by, GoesFromTo};
 ghost use Rattle.um_debug.specs.Commands.{most_cycles};
 ghost use Rattle.um_debug.specs.Replies.{came_text, registers_text, words_text, finger_text};
 ghost use Rattle.um_debug.specs.Replies.{unknown_text};
 ghost use Rattle.um_debug.specs.Session.{toggled, is_place, most_breakpoints, most_watches, sent};
-ghost use Rattle.um_debug.specs.inner.Calls.{MayAsk, CyclesEnd, CommandEnds, AnswerEnds, ObeyEnds};
-ghost use Rattle.um_debug.specs.inner.Calls.{Sets, InputRose, OutputRose};
+ghost use Rattle.um_debug.specs.inner.Calls.{MayAsk, ComesTo, CyclesEnd, CommandEnds, AnswerEnds};
+ghost use Rattle.um_debug.specs.inner.Calls.{ObeyEnds};
+ghost use Rattle.um_debug.specs.inner.Calls.{Sets};
 
 use crate::command::{Command, MOST_CYCLES, WordPlace, command_of};
 use crate::course::{Came, go};
@@ -32,10 +32,9 @@ pub(crate) fn obey<I: Source, O: Sink>(
     input: &mut I,
     out: &mut O,
 ) -> Result<(), DebugEnd>
-    ensures ends { let seen = seen_by I.Source O.Sink in
-        GoesFromTo (seen machine.old input.old out.old) (seen machine.new input.new out.new)
-        (λ s t. ObeyEnds line.now (InputRose I.Source input.old input.new)
-        (OutputRose O.Sink out.old out.new) machine.old machine.new points.old points.new s t result) }
+    ensures ends { ComesTo I.Source O.Sink machine.old machine.new
+        input.old input.new out.old out.new (λ input output s t. ObeyEnds line.now input output
+        machine.old machine.new points.old points.new s t result) }
     ensures limits { machine.new.limits ≡ machine.old.limits }
     ensures input { IsAsked I.Source input.old input.new (result ≡ Err DebugEnd.ReadFault) }
     ensures out { IsFed O.Sink out.old out.new (result ≡ Err DebugEnd.WriteFault) }
@@ -56,10 +55,9 @@ fn answer<I: Source, O: Sink>(
     input: &mut I,
     out: &mut O,
 ) -> Result<Vec<u8>, DebugEnd>
-    ensures ends { let seen = seen_by I.Source O.Sink in
-        GoesFromTo (seen machine.old input.old out.old) (seen machine.new input.new out.new)
-        (λ s t. AnswerEnds line.now (InputRose I.Source input.old input.new)
-        (OutputRose O.Sink out.old out.new) machine.old machine.new points.old points.new s t result) }
+    ensures ends { ComesTo I.Source O.Sink machine.old machine.new
+        input.old input.new out.old out.new (λ input output s t. AnswerEnds line.now input output
+        machine.old machine.new points.old points.new s t result) }
     ensures limits { machine.new.limits ≡ machine.old.limits }
     ensures input { IsAsked I.Source input.old input.new (result ≡ Err DebugEnd.ReadFault) }
     ensures out { IsFed O.Sink out.old out.new (result ≡ Err DebugEnd.WriteFault) }
@@ -80,10 +78,9 @@ fn follow<I: Source, O: Sink>(
     out: &mut O,
 ) -> Result<Vec<u8>, DebugEnd>
     requires { MayAsk command }
-    ensures ends { let seen = seen_by I.Source O.Sink in
-        GoesFromTo (seen machine.old input.old out.old) (seen machine.new input.new out.new)
-        (λ s t. CommandEnds command (InputRose I.Source input.old input.new)
-        (OutputRose O.Sink out.old out.new) machine.old machine.new points.old points.new s t result) }
+    ensures ends { ComesTo I.Source O.Sink machine.old machine.new
+        input.old input.new out.old out.new (λ input output s t. CommandEnds command input output
+        machine.old machine.new points.old points.new s t result) }
     ensures limits { machine.new.limits ≡ machine.old.limits }
     ensures input { IsAsked I.Source input.old input.new (result ≡ Err DebugEnd.ReadFault) }
     ensures out { IsFed O.Sink out.old out.new (result ≡ Err DebugEnd.WriteFault) }
@@ -113,10 +110,9 @@ fn cycles_reply<I: Source, O: Sink>(
     out: &mut O,
 ) -> Result<Vec<u8>, DebugEnd>
     requires { 1 ≤ cycles }
-    ensures ends { let seen = seen_by I.Source O.Sink in
-        GoesFromTo (seen machine.old input.old out.old) (seen machine.new input.new out.new)
-        (λ s t. CyclesEnd points.now cycles (InputRose I.Source input.old input.new)
-        (OutputRose O.Sink out.old out.new) machine.old machine.new s t result) }
+    ensures ends { ComesTo I.Source O.Sink machine.old machine.new
+        input.old input.new out.old out.new
+        (λ input output s t. CyclesEnd points.now cycles input output machine.old machine.new s t result) }
     ensures limits { machine.new.limits ≡ machine.old.limits }
     ensures input { IsAsked I.Source input.old input.new (result ≡ Err DebugEnd.ReadFault) }
     ensures out { IsFed O.Sink out.old out.new (result ≡ Err DebugEnd.WriteFault) }

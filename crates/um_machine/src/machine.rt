@@ -8,13 +8,14 @@ ghost use Rattle.std.specs.FinMap as map;
 ghost use Rattle.um_word.specs.Operators.{IsEncodable};
 ghost use Rattle.um_word.specs.State.{array_at, live_arrays, live_words};
 ghost use Rattle.um_word.specs.Table.{row, cycle, op_under};
-ghost use Rattle.um_word.specs.Rule.{next_identifier, left_by, identifiers_left};
+ghost use Rattle.um_word.specs.Rule.{left_by, identifiers_left};
 ghost use Rattle.array_store.specs.StoreView.{most_live_arrays, most_live_words, most_limits};
 ghost use Rattle.um_machine.specs.MachineView.{state_of, machine_of, IsWhole};
 ghost use Rattle.um_machine.specs.MachineParts.{AreMachineParts, parts_of, machine_of_parts};
-ghost use Rattle.um_machine.specs.Outside.{MayRest, MayHold, IsAsked, IsFed};
+ghost use Rattle.um_machine.specs.Outside.{MayRest, IsAsked, IsFed};
 ghost use Rattle.um_machine.specs.Stops.{turn_of, is_input, is_output};
-ghost use Rattle.um_machine.specs.inner.OperatorCalls.{placed, op_at, AnswersRow, DoesRow, rest_before};
+ghost use Rattle.um_machine.specs.inner.OperatorCalls.{placed, op_at, row_of, cycle_of};
+ghost use Rattle.um_machine.specs.inner.OperatorCalls.{AnswersCall, DoesRow, rest_before};
 ghost use Rattle.um_machine.specs.Runs.{seen_by, GoesFromTo, RunEnds, CycleEnds};
 
 use crate::{Saved, Stop, Turn};
@@ -321,14 +322,9 @@ impl Machine {
         ensures rest { (left : List ℕ) → MayRest (I.rest input.new) left →
             MayRest (I.rest input.old)
             (rest_before result (Some op) (I.rest input.old) self.new.registers left) }
-        ensures row { (cycles : ℕ) (left : List ℕ) → MayRest (I.rest input.new) left →
-            (held : List ℕ) → MayHold (O.written out.old) held →
-            AnswersRow (Some op) (placed self.new finger.new cycles) left
-            (O.written out.old) (O.written out.new)
-            (row op self.old.limits (next_identifier self.old.identifiers)
-            (state_of (placed self.old finger.old cycles)
-            (rest_before result (Some op) (I.rest input.old) self.new.registers left) held))
-            result }
+        ensures row { (cycles : ℕ) → AnswersCall (Some op) (row_of op self.old)
+            (placed self.old finger.old cycles) (placed self.new finger.new cycles)
+            (I.rest input.old) (I.rest input.new) (O.written out.old) (O.written out.new) result }
         ensures identifiers { OnOk result (self.new.identifiers
             ≡ left_by (Some op) (state_of self.old [] []) self.old.identifiers) }
         ensures limits { self.new.limits ≡ self.old.limits }
@@ -437,14 +433,9 @@ impl Machine {
         ensures rest { (left : List ℕ) → MayRest (I.rest input.new) left →
             MayRest (I.rest input.old) (rest_before result (op_at self.old finger.old)
             (I.rest input.old) self.new.registers left) }
-        ensures row { (cycles : ℕ) (left : List ℕ) → MayRest (I.rest input.new) left →
-            (held : List ℕ) → MayHold (O.written out.old) held →
-            AnswersRow (op_at self.old finger.old) (placed self.new finger.new (cycles + 1)) left
-            (O.written out.old) (O.written out.new)
-            (cycle (state_of (placed self.old finger.old cycles)
-            (rest_before result (op_at self.old finger.old) (I.rest input.old)
-            self.new.registers left) held)
-            self.old.limits (next_identifier self.old.identifiers)) result }
+        ensures row { (cycles : ℕ) → AnswersCall (op_at self.old finger.old) (cycle_of self.old)
+            (placed self.old finger.old cycles) (placed self.new finger.new (cycles + 1))
+            (I.rest input.old) (I.rest input.new) (O.written out.old) (O.written out.new) result }
         ensures identifiers { OnOk result (self.new.identifiers
             ≡ identifiers_left (state_of (placed self.old finger.old 0) [] [])
             self.old.identifiers) }

@@ -1,10 +1,10 @@
 -- What the instances of a core and its stores stand for.
-use Rattle.std.specs.Prelude.{◌≡◌, ℕ, ◌<◌, List, length, Bool, true, false}
+use Rattle.std.specs.Prelude.{◌≡◌, ℕ, ◌<◌, List, length, Bool, true, false, slice_set}
 use Rattle.codex_values.specs.declared.shape.Shape.{Shape}
 use Rattle.codex_values.specs.Store.{values_of, Keeps}
 use Rattle.two_d.specs.declared.trail.Trail.{Trail as TrailNode}
-use Rattle.two_d.specs.Meaning.{sum_below}
-use Rattle.two_d.specs.Steps.{Table, instance_at, is_inner}
+use Rattle.two_d.specs.Meaning.{Outcome, returned, sum_below}
+use Rattle.two_d.specs.Steps.{Table, ended, instance_at, is_inner, set_cell}
 use Rattle.two_d.specs.Trails.{trails_of, KeepsTrails}
 use Rattle.fire_core.specs.Cores.{CoreView}
 use Rattle.fire_core.specs.Kept.{KeptView}
@@ -19,6 +19,12 @@ pub record InstancesView : Type 0 where
 abbrev pub instances_view : List Shape → List TrailNode → List RowForm → InstancesView
 instances_view nodes trails rows = record
     { table = table_in (values_of nodes) (trails_of trails) rows; nodes = nodes; trails = trails }
+
+-- instance i has ended with this outcome, and box b of the one above has come to what it gave
+abbrev pub delivered : Table → (i above b : ℕ) → Outcome → Table
+delivered T i above b o =
+    set_cell (slice_set T i (ended (instance_at T i) o)) above b
+    (returned (instance_at T above).kind b o)
 
 abbrev pub one_if : Bool → ℕ
 one_if true = 1

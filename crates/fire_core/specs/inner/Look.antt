@@ -1,9 +1,11 @@
 -- What comes to the inputs of a box.
-use Rattle.std.specs.Prelude.{Option, Some, None, ℕ, List}
+use Rattle.std.specs.Prelude.{Option, Some, None, ℕ, List, Bool, ◌&&◌}
 use Rattle.std.specs.Option.{option_map}
 use Rattle.codex_values.specs.Value.{Value}
 use Rattle.two_d.specs.declared.module.Origin.{Origin}
 use Rattle.two_d.specs.Meaning as mean
+use Rattle.two_d.specs.Programs.{Program}
+use Rattle.two_d.specs.Steps.{Instance, can_fire, is_live}
 use Rattle.fire_core.specs.declared.look.Inputs.{Inputs}
 use Rattle.fire_core.specs.inner.Rows.{inputs_in, IsPlace}
 
@@ -23,3 +25,7 @@ InputFits n (Some at) = IsPlace n at
 abbrev pub InputsFit : ℕ → Option Inputs → Type 0
 InputsFit n None = Unit {0}
 InputsFit n (Some inputs) = IsPlace n inputs.north × IsPlace n inputs.west
+
+-- a box can fire, and its instance hasn't ended
+abbrev pub may_fire : Program → Instance → ℕ → Bool
+may_fire P x b = is_live x && can_fire P x b

@@ -1,12 +1,13 @@
 -- What the plain evaluator has computed, by places of the stores.
-use Rattle.std.specs.Prelude.{◌≡◌, ℕ, ◌<◌, Option, None, List, length, slice_index_or, IfSome}
+use Rattle.std.specs.Prelude.{◌≡◌, ℕ, ◌<◌, Option, None, Some, List, length, slice_index_or, IfSome}
+use Rattle.std.specs.Prelude.{IfOk, Result}
 use Rattle.std.specs.Option.{option_map}
 use Rattle.codex_values.specs.Value.{Value}
 use Rattle.two_d.specs.declared.module.Origin.{Origin}
 use Rattle.two_d.specs.Meaning as mean
 use Rattle.two_d.specs.Meaning.{Meaning, Answers, act, cell_of, is_known, firings_of, instances_of}
-use Rattle.two_d.specs.Meaning.{test_of, count_of, all_below, sum_below}
-use Rattle.two_d.specs.Programs.{Program}
+use Rattle.two_d.specs.Meaning.{test_of, count_of, all_below, look_of, sum_below, summary_of}
+use Rattle.two_d.specs.Programs.{Program, box_count}
 use Rattle.two_d.specs.Steps.{wires}
 use Rattle.two_d.specs.Texts.{IsPlaceIn, outcome_in}
 use Rattle.two_d.specs.Trails.{Trail}
@@ -19,7 +20,7 @@ use Rattle.fire_core.specs.declared.plain.rounds.Round.{Round}
 use Rattle.fire_core.specs.declared.rows.Cell.{Cell}
 use Rattle.fire_core.specs.inner.Acts.{EffectFits}
 use Rattle.fire_core.specs.inner.Rows.{RowForm, cell_in, inputs_in, instance_in, CellFits}
-use Rattle.fire_core.specs.Plain.{stopped}
+use Rattle.fire_core.specs.Plain.{stopped, with_stops}
 
 abbrev pub known_in : List Value → List Trail → Known → Meaning
 known_in values trails known = record {
@@ -53,6 +54,14 @@ pub record IsFired (values : List Value) (trails : List Trail) (answer : Answers
   pub firings : fired.firings ≡ stopped (count_of (firings_of answer) effect)
   pub instances : fired.instances ≡ stopped (count_of (instances_of answer) effect)
 
+-- what box b of module m comes to that starts a module of which this is known
+abbrev pub IsFiredByUse : {E : Type 0} → Option Known → (old new : List Trail) → (m b : ℕ) →
+    Result Fired E → Type 0
+IsFiredByUse known old new m b result =
+    (values : List Value) (answer : Answers) (j : ℕ) (a : mean.Inputs) →
+    option_map (known_in values old) known ≡ option_map with_stops (answer j a) →
+    IfOk result (IsFired values new answer m b (Some (mean.Starts j a)))
+
 -- what the first n boxes of module m come to by these answers, where they do this
 pub record IsRound (values : List Value) (trails : List Trail) (answer : Answers) (m : ℕ)
     (effects : ℕ → Option mean.Effect) (n : ℕ) (round : Round) : Type 0 where
@@ -85,3 +94,15 @@ pub record IsRowOf (values : List Value) (trails : List Trail) (m : ℕ) (a : me
   pub kind : row.kind ≡ m
   pub inputs : inputs_in values row.north row.west ≡ a
   pub carry : wires (instance_in values trails row) ≡ look
+
+-- What is known of an instance is what its module means by the sum of its boxes: where its wires
+-- carry what these answers pull through them, and a round has come to what all its boxes do.
+abbrev pub MeansBySum : {E : Type 0} → Program → RowForm → Round → (old new : List Trail) →
+    Result Known E → Type 0
+MeansBySum P row round old new result =
+    (values : List Value) (answer : Answers) (a : mean.Inputs) →
+    IsRowOf values old row.kind a (look_of P answer row.kind a) row →
+    IsRound values old answer row.kind (act P row.kind (look_of P answer row.kind a))
+    (box_count P row.kind) round →
+    IfOk result (λ known. known_in values new known
+    ≡ with_stops (summary_of P answer row.kind (look_of P answer row.kind a)))

@@ -1,9 +1,14 @@
 -- The ready events of one instance after another.
-use Rattle.std.specs.Prelude.{ℕ, zero, suc, ◌==◌, ◌&&◌, List, [], ◌∷◌, ◌++◌, Bool, not, if◌then◌else◌}
+use Rattle.std.specs.Prelude.{ℕ, zero, suc, ◌≡◌, ◌==◌, ◌&&◌, List, [], ◌∷◌, ◌++◌, Bool, not, length}
+use Rattle.std.specs.Prelude.{if◌then◌else◌, map, OnOk, Result, Some}
+use Rattle.codex_values.specs.Value.{Value}
+use Rattle.two_d.specs.declared.module.BoxRow.{BoxRow}
 use Rattle.two_d.specs.Meaning.{all_below}
-use Rattle.two_d.specs.Programs.{Program, box_count}
+use Rattle.two_d.specs.Programs.{Program, box_at, box_count, box_of, module_at}
 use Rattle.two_d.specs.Steps.{Table, Instance, Event, Fire, End, instance_at, is_live, can_fire}
+use Rattle.two_d.specs.Trails.{Trail}
 use Rattle.fire_core.specs.inner.Instances.{inner_count}
+use Rattle.fire_core.specs.inner.Rows.{RowForm, instance_in}
 
 -- the firing of a box, if it can fire
 abbrev pub fire_of : Program → Instance → ℕ → ℕ → List Event
@@ -34,3 +39,26 @@ ready_of P T i =
 abbrev pub ready_below : Program → Table → ℕ → List Event
 ready_below P T zero = []
 ready_below P T (suc n) = ready_below P T n ++ ready_of P T n
+
+-- the firing of box b of instance i was added to a list, if it can fire
+abbrev pub AddsFire : {E : Type 0} → RowForm → BoxRow → (i b : ℕ) → (old new : List Event) →
+    Result (Unit {0}) E → Type 0
+AddsFire row bx i b old new result = (P : Program) (values : List Value) (trails : List Trail) →
+    box_at P row.kind b ≡ Some (box_of bx) →
+    OnOk result (new ≡ old ++ fire_of P (instance_in values trails row) i b)
+
+-- the firings of these boxes were added to a list, where they are those of the module of instance i
+abbrev pub AddsFires : {E : Type 0} → RowForm → List BoxRow → ℕ → (old new : List Event) →
+    Result (Unit {0}) E → Type 0
+AddsFires row boxes i old new result = (P : Program) (values : List Value) (trails : List Trail) →
+    (module_at P row.kind).boxes ≡ map box_of boxes →
+    OnOk result (new ≡ old ++ fires_of P (instance_in values trails row) i (length boxes))
+
+-- all that is ready of instance i was added to a list, where this is its row
+abbrev pub AddsReady : {E : Type 0} → RowForm → List BoxRow → ℕ → (old new : List Event) →
+    Result (Unit {0}) E → Type 0
+AddsReady row boxes i old new result =
+    (P : Program) (T : Table) (values : List Value) (trails : List Trail) →
+    instance_at T i ≡ instance_in values trails row →
+    (module_at P row.kind).boxes ≡ map box_of boxes → row.inner ≡ inner_count i T →
+    OnOk result (new ≡ old ++ ready_of P T i)

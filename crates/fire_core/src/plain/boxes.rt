@@ -9,9 +9,9 @@ ghost use Rattle.two_d.specs.Meaning.{Answers};
 ghost use Rattle.two_d.specs.Programs.{box_count};
 ghost use Rattle.two_d.specs.Trails.{Trail, KeepsTrails, trails_of};
 ghost use Rattle.fire_core.specs.inner.Acts.{effect_in};
-ghost use Rattle.fire_core.specs.inner.Plain.{EffectFitsIn, IsFired, KnownFits, effects_in, known_in};
+ghost use Rattle.fire_core.specs.inner.Plain.{EffectFitsIn, IsFired, IsFiredByUse, KnownFits};
+ghost use Rattle.fire_core.specs.inner.Plain.{effects_in};
 ghost use Rattle.fire_core.specs.inner.Rows.{CellFits, RowFits, cell_in, row_of};
-ghost use Rattle.fire_core.specs.Plain.{with_stops};
 
 use crate::act::{Effect, Spot, act};
 use crate::look::inputs_of;
@@ -105,10 +105,8 @@ pub(crate) fn used(
     known: Option<Known>,
 ) -> Result<Fired, Memory>
     requires { (n : ℕ) × KnownFits n (length trails.old) known }
-    ensures fired { (values : List Value) (answer : Answers) (j : ℕ) (a : mean.Inputs)
-        → option_map (known_in values (trails_of trails.old)) known ≡ option_map with_stops (answer j a)
-        → IfOk result (IsFired values (trails_of trails.new) answer spot.kind spot.bx
-        (Some (mean.Starts j a))) }
+    ensures fired { IsFiredByUse known (trails_of trails.old) (trails_of trails.new)
+        spot.kind spot.bx result }
     ensures fits { (n : ℕ) → KnownFits n (length trails.old) known
         → IfOk result (λ fired. CellFits n (length trails.new) fired.cell) }
     ensures keeps { KeepsTrails trails.old trails.new }

@@ -1,16 +1,17 @@
 //! What an instance means, by rounds: after each its wires carry what is pulled through one box more.
 
-ghost use Rattle.std.specs.Prelude.{◌≡◌, ◌<◌, ◌+◌, ◌++◌, ◌∷◌, [], ◌&&◌, ℕ, List, length, Some, IfOk, OnOk};
+ghost use Rattle.std.specs.Prelude.{◌≡◌, ◌<◌, ◌+◌, ◌++◌, ◌∷◌, [], ◌&&◌, ℕ, length, Some, IfOk};
+ghost use Rattle.std.specs.Prelude.{OnOk};
 ghost use Rattle.std.specs.Option.{option_map};
-ghost use Rattle.codex_values.specs.Value.{Value};
 ghost use Rattle.codex_values.specs.Store.{Keeps, values_of};
 ghost use Rattle.two_d.specs.Meaning as mean;
-ghost use Rattle.two_d.specs.Meaning.{Answers, act, look_of, summary_of};
+ghost use Rattle.two_d.specs.Meaning.{act, look_of};
 ghost use Rattle.two_d.specs.Programs.{box_count};
 ghost use Rattle.two_d.specs.Texts.{IsPlaceIn};
 ghost use Rattle.two_d.specs.Trails.{KeepsTrails, trails_of};
 ghost use Rattle.fire_core.specs.inner.Look.{InputsFit, inputs_at};
 ghost use Rattle.fire_core.specs.inner.Plain.{CellsFit, IsFired, IsRound, IsRowOf, KnownFits};
+ghost use Rattle.fire_core.specs.inner.Plain.{MeansBySum};
 ghost use Rattle.fire_core.specs.inner.Plain.{effects_in, known_in, row_for};
 ghost use Rattle.fire_core.specs.inner.Rows.{CellFits, RowFits, row_of};
 ghost use Rattle.fire_core.specs.Plain.{stopped, with_stops};
@@ -199,13 +200,8 @@ fn ended(
     round: Round,
 ) -> Result<Known, Memory>
     requires kind { row.kind < length program.now }
-    ensures means { (values : List Value) (answer : Answers) (a : mean.Inputs)
-        → IsRowOf values (trails_of trails.old) row.kind a (look_of program.now answer row.kind a) (row_of row)
-        → IsRound values (trails_of trails.old) answer row.kind
-        (act program.now row.kind (look_of program.now answer row.kind a))
-        (box_count program.now row.kind) round
-        → IfOk result (λ known. known_in values (trails_of trails.new) known
-        ≡ with_stops (summary_of program.now answer row.kind (look_of program.now answer row.kind a))) }
+    ensures means { MeansBySum program.now (row_of row) round (trails_of trails.old)
+        (trails_of trails.new) result }
     ensures fits { (n : ℕ) → RowFits n (length trails.old) (row_of row)
         → CellsFit n (length trails.old) round.cells.items
         → IfOk result (λ known. IsPlaceIn n (length trails.new) known.outcome) }

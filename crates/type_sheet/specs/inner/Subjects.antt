@@ -1,6 +1,6 @@
 -- Rows by what they declare.
 use Rattle.std.specs.Prelude.{ℕ, suc, Bool, false, ◌&&◌, List, [], ◌∷◌, Option, Some, None, nat_eq}
-use Rattle.std.specs.Prelude.{if◌then◌else◌, slice_get, is_some, ◌≡◌}
+use Rattle.std.specs.Prelude.{if◌then◌else◌, slice_get, is_some, take, ◌≡◌, ◌<◌, MatchOption}
 use Rattle.std.specs.Borrow.{Bor}
 use Rattle.std.specs.HashMap.{HashMap, get}
 use Rattle.std.specs.Option.{option_map, option_and_then, option_copied}
@@ -65,6 +65,17 @@ is_declared row s = same_key (key_of (subject_of row.line)) (key_of s)
 abbrev pub place_of : List SheetRow → Subject → Option ℕ
 place_of [] s = None
 place_of (row ∷ rows) s = if is_declared row s then Some 0 else option_map suc (place_of rows s)
+
+-- the row at place i is the first that declares its subject
+abbrev pub IsNew : List SheetRow → ℕ → SheetRow → Type 0
+IsNew rows i row = place_of (take i rows) (subject_of row.line) ≡ None
+
+-- the place of the first row that declares what an earlier one declares, if there is one
+abbrev pub FindsAgain : List SheetRow → Option ℕ → Type 0
+FindsAgain rows found = MatchOption found
+    ((i : ℕ) (row : SheetRow) → slice_get rows i ≡ Some row → IsNew rows i row)
+    (λ i. (row : SheetRow) × (slice_get rows i ≡ Some row) × (IsNew rows i row → ⊥)
+    × ((j : ℕ) (other : SheetRow) → j < i → slice_get rows j ≡ Some other → IsNew rows j other))
 
 -- the line of the first row that declares the subject
 abbrev pub line_of : List SheetRow → Subject → Option Line

@@ -15,6 +15,7 @@ use Rattle.um_machine.specs.declared.stop.Stop.{Stop}
 use Rattle.um_machine.specs.declared.stop.Stop.TheVariants as stop
 use Rattle.um_machine.specs.MachineView.{MachineView}
 use Rattle.um_machine.specs.Outside.{MayHold}
+use Rattle.um_machine.specs.Runs.{seen_by, GoesFromTo}
 use Rattle.um_debug.specs.declared.course.Came.{Came}
 use Rattle.um_debug.specs.declared.course.Came.TheVariants as came
 use Rattle.um_debug.specs.declared.course.Came.TheVariants.{Stopped}
@@ -166,3 +167,11 @@ InputRose i old new = Rose (i.faults old) (i.faults new)
 
 abbrev pub OutputRose : {O : Type 0} → sink.Ghosts O → O → O → Type 0
 OutputRose o old new = Rose (o.faults old) (o.faults new)
+
+-- what a call on a machine comes to, of its states before and after, and by whether the count of the
+-- input, and that of the output, rose
+abbrev pub ComesTo : {I O : Type 0} → source.Ghosts I → sink.Ghosts O → (old new : MachineView) →
+    I → I → O → O → ((input output : Type 0) → State → State → Type 0) → Type 0
+ComesTo i o old new input input' out out' outcome =
+    GoesFromTo (seen_by i o old input out) (seen_by i o new input' out')
+    (outcome (InputRose i input input') (OutputRose o out out'))

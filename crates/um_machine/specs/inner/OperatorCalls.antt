@@ -3,13 +3,14 @@ use Rattle.std.specs.Prelude.{◌≡◌, ℕ, ◌+◌, ◌⊎◌, List, [], ◌�
 use Rattle.std.specs.Prelude.{OnOk, OnErr, slice_index}
 use Rattle.um_word.specs.declared.op.Op.{Op}
 use Rattle.um_word.specs.declared.op.Op.TheVariants.{Input, Load}
-use Rattle.um_word.specs.Table.{Next, Goes, Stops, row, op_under}
+use Rattle.um_word.specs.State.{State}
+use Rattle.um_word.specs.Table.{Next, Goes, Stops, row, cycle, op_under}
 use Rattle.um_word.specs.Rule.{next_identifier, left_by}
 use Rattle.um_machine.specs.declared.stop.Turn.{Turn}
 use Rattle.um_machine.specs.declared.stop.Stop.{Stop}
 use Rattle.um_machine.specs.declared.stop.Stop.TheVariants.{ReadFault, WriteFault}
 use Rattle.um_machine.specs.MachineView.{MachineView, state_of}
-use Rattle.um_machine.specs.Outside.{MayHold}
+use Rattle.um_machine.specs.Outside.{MayRest, MayHold}
 use Rattle.um_machine.specs.Stops.{stop_of, turn_of, MayFail}
 
 -- the machine with its finger at this offset, and with this count of cycles
@@ -46,6 +47,22 @@ abbrev pub rest_before : Result Turn Stop → Option Op → Option (List ℕ) �
 rest_before (Ok turn) (Some (Input c)) None registers left = slice_index registers c ∷ left
 rest_before (Ok turn) (Some (Input c)) (Some told) registers left = told
 rest_before result op before registers left = left
+
+-- an answer and what it leaves, whatever may be left of the input and may have been written before:
+-- by what the cycle comes to of each state
+abbrev pub AnswersCall : Option Op → (State → Next) → (old new : MachineView) →
+    (rest left_rest before now : Option (List ℕ)) → Result Turn Stop → Type 0
+AnswersCall op comes old new rest left_rest before now result =
+    (left : List ℕ) → MayRest left_rest left → (held : List ℕ) → MayHold before held →
+    AnswersRow op new left before now
+    (comes (state_of old (rest_before result op rest new.registers left) held)) result
+
+-- what an operator's row, and a cycle, come to of each state of a machine
+abbrev pub row_of : Op → MachineView → State → Next
+row_of op m s = row op m.limits (next_identifier m.identifiers) s
+
+abbrev pub cycle_of : MachineView → State → Next
+cycle_of m s = cycle s m.limits (next_identifier m.identifiers)
 
 -- an answer and the machine that it leaves, of a call that asks neither the source nor the sink
 abbrev pub AnswersRowAlone : Op → MachineView → (rest out : List ℕ) → Next → Result (Unit {0}) Stop → Type 0
