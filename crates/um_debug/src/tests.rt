@@ -41,7 +41,9 @@ fn sessions_on_the_first_scroll(rt: HostRuntime) -> Result<(), Fail> {
             b"s 1\nr\nf\nc 9\nx\nq\nr\n",
             9,
             DebugEnd::Quit,
-            b"stopped cycles 1 finger 1\n00000041 00000000 00000000 00000000 00000000 00000000 00000000 00000000\nfinger 1 cycles 1 arrays 0 words 3 next out r0\nAhalted cycles 3\n?\n",
+            b"stopped cycles 1 finger 1\n\
+                00000041 00000000 00000000 00000000 00000000 00000000 00000000 00000000\n\
+                finger 1 cycles 1 arrays 0 words 3 next out r0\nAhalted cycles 3\n?\n",
         ),
         (
             b"b 1\nc 9\nw 0 2\nb 1\n",
@@ -125,12 +127,18 @@ fn sessions_on_other_scrolls(rt: HostRuntime) -> Result<(), Fail> {
         (
             ARRAYS,
             b"w 1 0\nb 4\nc 9\nc 9\nc 9\nc 9\nc 9\ns 1\nf",
-            b"w 1 0 on\nb 4 on\nwatch 1 0 none 00000000 cycles 2\nwatch 1 0 00000000 00000007 cycles 4\nwatch 1 0 00000007 none cycles 5\nfault AbandonZero at cycle 6\nfault AbandonZero at cycle 6\nfault AbandonZero at cycle 6\nfinger 5 cycles 5 arrays 0 words 6 next abandon r0\n",
+            b"w 1 0 on\nb 4 on\nwatch 1 0 none 00000000 cycles 2\n\
+                watch 1 0 00000000 00000007 cycles 4\nwatch 1 0 00000007 none cycles 5\n\
+                fault AbandonZero at cycle 6\nfault AbandonZero at cycle 6\n\
+                fault AbandonZero at cycle 6\n\
+                finger 5 cycles 5 arrays 0 words 6 next abandon r0\n",
         ),
         (
             ARRAYS,
             b"w 1 0\nw 1 1\nc 9\nf\nc 1\nc 9\na 1 0 3",
-            b"w 1 0 on\nw 1 1 on\nwatch 1 0 none 00000000 cycles 2\nfinger 2 cycles 2 arrays 1 words 8 next set r3, 7\nstopped cycles 3 finger 3\nwatch 1 0 00000000 00000007 cycles 4\n00000007 00000000 none\n",
+            b"w 1 0 on\nw 1 1 on\nwatch 1 0 none 00000000 cycles 2\n\
+                finger 2 cycles 2 arrays 1 words 8 next set r3, 7\nstopped cycles 3 finger 3\n\
+                watch 1 0 00000000 00000007 cycles 4\n00000007 00000000 none\n",
         ),
         (
             ARRAYS,
@@ -140,7 +148,9 @@ fn sessions_on_other_scrolls(rt: HostRuntime) -> Result<(), Fail> {
         (
             ALLOCATIONS,
             b"b 0\nc 9\ns 1\ns 99\nc 1\nf",
-            b"b 0 on\nbreak 0 cycles 2\nstopped cycles 3 finger 1\nlimit ArraysFull at cycle 9\nlimit ArraysFull at cycle 9\nfinger 0 cycles 8 arrays 4 words 2 next alloc r1, r0\n",
+            b"b 0 on\nbreak 0 cycles 2\nstopped cycles 3 finger 1\nlimit ArraysFull at cycle 9\n\
+                limit ArraysFull at cycle 9\n\
+                finger 0 cycles 8 arrays 4 words 2 next alloc r1, r0\n",
         ),
         (
             WORDS,
@@ -150,7 +160,9 @@ fn sessions_on_other_scrolls(rt: HostRuntime) -> Result<(), Fail> {
         (
             READS,
             b"s 1\nr\ns 1",
-            b"stopped cycles 1 finger 1\n00000000 ffffffff 00000000 00000000 00000000 00000000 00000000 00000000\nhalted cycles 2\n",
+            b"stopped cycles 1 finger 1\n\
+                00000000 ffffffff 00000000 00000000 00000000 00000000 00000000 00000000\n\
+                halted cycles 2\n",
         ),
     ];
     for (scroll, commands, text) in rows {

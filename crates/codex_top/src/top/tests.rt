@@ -268,7 +268,9 @@ fn words<'a>(words: &'a [&'a str], out: &'a [u8], err: &'a str, status: Status) 
 }
 
 const USAGE: &str =
-    "usage: check F | eval F [PICKS [N]] | trace F PICKS N | compile F OUT | run F [N] | asm F OUT | dis F | debug F INPUT | selftest N | draw F | type F SHEET | save F N OUT | resume F N\n";
+    "usage: check F | eval F [PICKS [N]] | trace F PICKS N | compile F OUT | run F [N] | asm F \
+        OUT | dis F | debug F INPUT | selftest N | draw F | type F SHEET | save F N OUT | resume \
+        F N\n";
 
 #[test]
 fn command_lines(rt: HostRuntime) -> Result<(), Fail> {

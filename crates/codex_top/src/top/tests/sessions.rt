@@ -8,8 +8,9 @@ use umix_base::{MemShelf, MemSink, MemSource};
 
 pub(super) const COMMANDS: &[u8] = b"s 1\nr\nf\nc 9\nx\nq\n";
 
-pub(super) const REPLIES: &str =
-    "stopped cycles 1 finger 1\n00000041 00000000 00000000 00000000 00000000 00000000 00000000 00000000\nfinger 1 cycles 1 arrays 0 words 3 next out r0\nAhalted cycles 3\n?\n";
+pub(super) const REPLIES: &str = "stopped cycles 1 finger 1\n\
+        00000041 00000000 00000000 00000000 00000000 00000000 00000000 00000000\n\
+        finger 1 cycles 1 arrays 0 words 3 next out r0\nAhalted cycles 3\n?\n";
 
 /// A session on a scroll in the file `f`, with the input in the file `i`, if it is there.
 #[derive(Drop)]

@@ -57,3 +57,7 @@ returns-clause-course g c =
     (subst (λ n. Went c.args.points.now n (seen_by g.I.Source g.O.Sink c.args.machine.now c.args.input.now c.args.out.now)
     (seen_by g.I.Source g.O.Sink c.loop.machine c.loop.input c.loop.out))
     (omega (arith, c.loop-test.false, c.loop.auto.counter-end)) c.loop.invariant.went)
+
+pub returns-then-is_empty-clause-course : goal.returns-then-is_empty-clause-course
+returns-then-is_empty-clause-course g c =
+    rw (sym c.if-is_empty.ensures) at c.step.ensures.course
