@@ -1,21 +1,26 @@
-"""Makes the tables of bench/cases/, which the gate tries on ./codex: types.txt, of drawings and sheets, and images.txt,
-of changed images. The answers are those of sheets.py and images.py.
+"""Makes the tables of bench/cases/, which the gate tries on ./codex and ./explain: types.txt, of drawings and sheets,
+images.txt, of changed images, and pages.txt, of a page for each fault of a drawing. The answers are those of sheets.py,
+images.py and pages.py.
 
     make_cases.py FOLDER
 """
 import collections
+import glob
 import os
 import random
 import struct
 import sys
 
 import layouts
+import pages
 import sheets
 from grid import program
 from images import Machine, machine_of
+from try_faults import wanted
 from try_images import ARRAYS, FRESH, LOADED, changed, words_of
 from try_types import sheet_case
 
+HERE = os.path.dirname(os.path.abspath(__file__))
 EACH = 6
 
 
@@ -71,8 +76,31 @@ def images():
         yield '%s|%s\n' % (said, octal(data))
 
 
+def fault_pages():
+    """Blocks: a line `= FILE` and its page; for each fault the smallest drawing that docs/GRID.md shows for it."""
+    lines = {}
+    with open(os.path.join(HERE, '../docs/GRID.md'), encoding='utf-8') as file:
+        for line in file:
+            if line.startswith('    refused '):
+                lines.setdefault(line.split()[1], line.strip())
+    found = {}
+    for path in sorted(glob.glob(os.path.join(HERE, '../crates/codex_examples/data/grid_*.grid'))):
+        with open(path, 'rb') as file:
+            text = file.read()
+        line = wanted(text)[0].strip()
+        kind = line.split()[1]
+        if line.startswith('refused') and (kind not in found or len(text) < len(found[kind][1])):
+            line = lines[kind] if kind in ('10', '24') else line
+            found[kind] = line, text, os.path.basename(path)
+    found['1'] = 'refused 1 TooLong', b' ' * 262145, '262145 bytes'
+    found['3'] = 'refused 3 LineTooLong at 1:4097', b' ' * 4097 + b'\n', '4097 columns'
+    for kind in sorted(found, key=int):
+        line, text, name = found[kind]
+        yield '= %s\n%s' % (name, pages.page(line, text))
+
+
 def main():
-    for name, rows in (('types.txt', types()), ('images.txt', images())):
+    for name, rows in (('types.txt', types()), ('images.txt', images()), ('pages.txt', fault_pages())):
         with open(os.path.join(sys.argv[1], name), 'w') as file:
             file.writelines(rows)
 

@@ -21,3 +21,7 @@ line_of Usage = None
 line_of ReadFault = Some (codes "read fault\n")
 line_of WriteFault = Some (codes "write fault\n")
 line_of Memory = Some (codes "no memory\n")
+
+-- the line of an assembly text with more bytes than one may have
+abbrev pub text_too_long : List ℕ
+text_too_long = codes "refused 46 TextTooLong\n"

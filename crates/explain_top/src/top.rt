@@ -1,18 +1,27 @@
 //! The program's one call.
 
-ghost use Rattle.std.specs.Prelude.{◌≡◌, map, string_bytes};
+ghost use Rattle.std.specs.Prelude.{◌≡◌, ◌<◌, ◌^◌, map, string_bytes};
 ghost use Rattle.explain_top.specs.Outside.{shelved, told};
-ghost use Rattle.explain_top.specs.Explaining.{Explained, IsPut, IsTold, PageShown, TextRead};
+ghost use Rattle.explain_top.specs.Explaining as plain;
+ghost use Rattle.explain_top.specs.Explaining.{Explained, IsPut, IsTold, ListingShown, PageShown};
+ghost use Rattle.explain_top.specs.Explaining.{TextListed, TextRead};
 
 use crate::Status;
 use crate::help::help;
 use crate::words::{Job, job_of};
+use asm_view::{Answer as TextAnswer, asm_page};
 use fault_view::{Answer, PageFault, grid_page};
 use std::alloc::Global;
-use umix_base::{Failed, Shelf, ShelfFault, Sink};
+use umix_base::{Failed, Memory, Shelf, ShelfFault, Sink};
 
-/// The most bytes of a drawing, and one more.
-const MOST_AND_ONE: usize = 262_145;
+/// The most bytes of a drawing.
+const MOST_GRID_BYTES: usize = 262_144;
+
+/// The most bytes of an assembly text.
+const MOST_TEXT_BYTES: usize = 300_000_000;
+
+/// The line of a longer one.
+const TEXT_TOO_LONG: &str = "refused 46 TextTooLong\n";
 
 /// Does what the words of a command line ask for, without the program's name: writes the page of a
 /// file to the output, or the help text; and to `err` the help text where the words ask for nothing
@@ -35,6 +44,10 @@ pub fn explain<F: Shelf, O: Sink, E: Sink>(
             let status = show_grid(alloc, file, shelf, out);
             tell(status, err)
         }
+        Some(Job::Asm { file }) => {
+            let status = show_listing(alloc, file, shelf, out);
+            tell(status, err)
+        }
         Some(Job::Help) => put(help(), Status::Done, out),
         None => put(help(), Status::Usage, err),
     }
@@ -45,7 +58,7 @@ fn show_grid<F: Shelf, O: Sink>(alloc: Global, file: &str, shelf: &mut F, out: &
     ensures { PageShown file.now (shelved F.Shelf shelf.old) (shelved F.Shelf shelf.new)
         (told O.Sink out.old) (told O.Sink out.new) result }
 {
-    match read_text(alloc, file, shelf) {
+    match read_text(alloc, MOST_GRID_BYTES, file, shelf) {
         Ok(text) => match grid_page(alloc, &text, out) {
             Ok(Answer::Program) => Status::Done,
             Ok(Answer::Refused) => Status::Refused,
@@ -56,12 +69,52 @@ fn show_grid<F: Shelf, O: Sink>(alloc: Global, file: &str, shelf: &mut F, out: &
     }
 }
 
-/// The bytes of the file, of which one more is read at most than a drawing may have, or the status
-/// that tells why there are none.
-fn read_text<F: Shelf>(alloc: Global, file: &str, shelf: &mut F) -> Result<Vec<u8>, Status>
-    ensures { TextRead file.now (shelved F.Shelf shelf.old) (shelved F.Shelf shelf.new) result }
+/// Writes the page of the assembly text in the file, or the line that tells that it is too long.
+fn show_listing<F: Shelf, O: Sink>(alloc: Global, file: &str, shelf: &mut F, out: &mut O) -> Status
+    ensures { ListingShown file.now (shelved F.Shelf shelf.old) (shelved F.Shelf shelf.new)
+        (told O.Sink out.old) (told O.Sink out.new) result }
 {
-    match shelf.read(alloc, file, MOST_AND_ONE) {
+    match read_text(alloc, MOST_TEXT_BYTES, file, shelf) {
+        Ok(text) => list_text(alloc, &text, out),
+        Err(status) => status,
+    }
+}
+
+/// Writes the page of an assembly text, or the line that tells that it is too long.
+fn list_text<O: Sink>(alloc: Global, text: &[u8], out: &mut O) -> Status
+    ensures { TextListed text.now (told O.Sink out.old) (told O.Sink out.new) result }
+{
+    if text.len() > MOST_TEXT_BYTES {
+        return put(TEXT_TOO_LONG, Status::Refused, out);
+    }
+    match asm_page(alloc, text) {
+        Ok(page) => send(&page.bytes, status_of(page.answer), out),
+        Err(Memory) => Status::Memory,
+    }
+}
+
+/// The status that tells an answer to an assembly text.
+fn status_of(answer: TextAnswer) -> Status
+    ensures { result ≡ plain.status_of answer }
+{
+    match answer {
+        TextAnswer::Accepted => Status::Done,
+        TextAnswer::Refused => Status::Refused,
+    }
+}
+
+/// The bytes of the file, of which one more is read at most than there may be, or the status that
+/// tells why there are none.
+fn read_text<F: Shelf>(
+    alloc: Global,
+    most: usize,
+    file: &str,
+    shelf: &mut F,
+) -> Result<Vec<u8>, Status>
+    requires { most < 2 ^ 32 }
+    ensures { TextRead most file.now (shelved F.Shelf shelf.old) (shelved F.Shelf shelf.new) result }
+{
+    match shelf.read(alloc, file, most + 1) {
         Ok(bytes) => Ok(bytes),
         Err(ShelfFault::Failed) => Err(Status::ReadFault),
         Err(ShelfFault::Memory) => Err(Status::Memory),
@@ -82,7 +135,14 @@ fn tell<E: Sink>(status: Status, err: &mut E) -> Status
 fn put<S: Sink>(text: &str, status: Status, sink: &mut S) -> Status
     ensures { IsPut text.now status (told S.Sink sink.old) (told S.Sink sink.new) result }
 {
-    match sink.put(text.as_bytes()) {
+    send(text.as_bytes(), status, sink)
+}
+
+/// Writes the bytes, and gives the status, or that they couldn't be written.
+fn send<S: Sink>(bytes: &[u8], status: Status, sink: &mut S) -> Status
+    ensures { IsPut bytes.now status (told S.Sink sink.old) (told S.Sink sink.new) result }
+{
+    match sink.put(bytes) {
         Ok(()) => status,
         Err(Failed) => Status::WriteFault,
     }

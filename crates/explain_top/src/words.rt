@@ -8,6 +8,8 @@ ghost use Rattle.explain_top.specs.Words.{IsFound};
 pub enum Job<'a> {
     /// To show the drawing in this file.
     Grid { file: &'a str },
+    /// To list the assembly text in this file.
+    Asm { file: &'a str },
     /// To tell the words of both programs.
     Help,
 }
@@ -21,6 +23,7 @@ pub fn job_of(words: &Vec<String>) -> Option<Job<'_>>
     };
     match command.as_str() {
         "grid" => grid_of(rest),
+        "asm" => asm_of(rest),
         "help" => help_of(rest),
         _ => None,
     }
@@ -31,6 +34,17 @@ fn grid_of(rest: &[String]) -> Option<Job<'_>>
 {
     match rest {
         [file] => Some(Job::Grid {
+            file: file.as_str(),
+        }),
+        _ => None,
+    }
+}
+
+fn asm_of(rest: &[String]) -> Option<Job<'_>>
+    ensures { IsFound (codes "asm" ∷ map string_bytes rest.now) result }
+{
+    match rest {
+        [file] => Some(Job::Asm {
             file: file.as_str(),
         }),
         _ => None,

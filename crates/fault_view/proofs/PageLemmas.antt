@@ -1,5 +1,5 @@
 -- The page of a text that `check` has answered.
-use Rattle.std.proofs.Common.{◌≡◌, ◌≤◌, ◌<◌, ℕ, List, length, Option, Some, refl, sym, ap, ◌∙◌, subst, inl, inr, arith}
+use Rattle.std.proofs.Common.{◌≡◌, ◌++◌, ◌≤◌, ℕ, List, length, Option, refl, sym, ap, ◌∙◌, subst, inl, inr, arith}
 use Rattle.std.specs.Prelude.{Ok, Err}
 use Rattle.std.proofs.lemmas.Bool.{cases_lt}
 use Rattle.umix_base.specs.declared.Failed.{Failed as SinkFailed}
@@ -14,7 +14,9 @@ use Rattle.two_d.specs.Weights.{weight}
 use Rattle.module_table.specs.Answers.{HasNumberOf, answer_of}
 use Rattle.module_table.specs.declared.fault.CheckFault.{CheckFault}
 use Rattle.module_table.specs.declared.fault.CheckFault.TheVariants.{Bad}
+use Rattle.fault_view.specs.Breaks.{AddsBreak, IsBorderTold, border_of}
 use Rattle.fault_view.specs.Hints.{hint_of}
+use Rattle.fault_view.specs.declared.breaks.Border.{Border}
 use Rattle.fault_view.specs.Pages.{IsPage, PageWritten, cut, fault_page, of_fault, of_program, ok_line, page_with, written}
 use Rattle.fault_view.specs.declared.page.Answer.{Answer}
 use Rattle.fault_view.specs.declared.page.Answer.TheVariants as answer
@@ -63,16 +65,22 @@ pages_same : (text : List ℕ) (f : TextFault) (number : ℕ) (place : Option Pl
 pages_same text f number place name hint numbered named placed hinted =
     rw (numbered, named, placed, hinted) refl
 
-pub fault_told : (text : List ℕ) (e : CheckFault) (number : ℕ) (place : Option Place) (name hint bytes : List ℕ) → e ≡ Bad number place
+pub fault_told : (text : List ℕ) (e : CheckFault) (number : ℕ) (place : Option Place) (name hint first bytes : List ℕ) (border : Option Border)
+    → e ≡ Bad number place
     → Refuses (faults_mapped number_and_place (program_of text)) (answer_of e) → ((f : TextFault) → HasNumberOf e f → name ≡ (told_as f).1)
-    → ((f : TextFault) → (told_as f).0 ≡ number → hint ≡ hint_of f) → bytes ≡ page_with text number name place hint → IsPage text answer.Refused bytes
-fault_told text e number place name hint bytes same refused named hinted is =
+    → ((f : TextFault) → (told_as f).0 ≡ number → hint ≡ hint_of f)
+    → ((f : TextFault) → (told_as f).0 ≡ number → (told_as f).2 ≡ place → border ≡ border_of f)
+    → first ≡ page_with text number name place hint → AddsBreak text border first bytes → IsPage text answer.Refused bytes
+fault_told text e number place name hint first bytes border same refused named hinted bordered is (more, tells, added) =
     let (f, reads, told) = fault_read text e number place same refused in
     let numbered : number ≡ (told_as f).0 = ap (λ (p : ℕ × Option Place). p.0) told in
     let placed : place ≡ (told_as f).2 = ap (λ (p : ℕ × Option Place). p.1) told in
     let as_named : name ≡ (told_as f).1 = named f (has_number e number place f same told) in
     let as_hinted : hint ≡ hint_of f = hinted f (sym numbered) in
-    rw (is ∙ pages_same text f number place name hint numbered as_named placed as_hinted) (of_fault f reads)
+    let as_told : IsBorderTold text (border_of f) more =
+    subst (λ (b : Option Border). IsBorderTold text b more) (bordered f (sym numbered) (sym placed)) tells in
+    rw (added ∙ ap (λ (page : List ℕ). page ++ more) (is ∙ pages_same text f number place name hint numbered as_named placed as_hinted))
+    (of_fault f more reads as_told)
 
 -- a page that was put, whole and in part
 pub put_whole : (text : List ℕ) (a : Answer) (page piece : List ℕ) (old new : Option (List ℕ)) → piece ≡ page → IsPage text a page

@@ -1,3 +1,4 @@
 pub mod Boxes
+pub mod Breaks
 pub mod Hints
 pub mod Pages

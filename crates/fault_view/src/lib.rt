@@ -2,9 +2,11 @@
 //! place, and a sentence on what usually is wrong.
 #![tactic(auto)]
 
+mod breaks;
 mod hints;
 mod page;
 mod pages;
+mod pictures;
 
 pub use page::{Answer, PageFault, grid_page};
 

@@ -3,14 +3,15 @@
 ghost use Rattle.std.specs.Prelude.{◌≡◌, ◌≤◌, ◌++◌, IfOk, OnOk, length};
 ghost use Rattle.two_d.specs.Weights.{weight};
 ghost use Rattle.fault_view.specs.Boxes.{boxes_in};
-ghost use Rattle.fault_view.specs.Pages.{IsPage, after_name, ok_line, page_with, picture_part};
+ghost use Rattle.fault_view.specs.Pages.{IsPage, after_name, ok_line, page_with};
 
+use crate::breaks::{border_at, push_break};
 use crate::hints::hint_at;
 use crate::page::Answer;
+use crate::pictures::push_picture;
 use itoa::Buffer;
 use module_table::{CheckFault, check};
 use std::alloc::Global;
-use text_picture::picture;
 use two_d::Program;
 use umix_base::{Memory, Place};
 
@@ -38,7 +39,8 @@ pub(crate) fn page_of(alloc: Global, text: &[u8]) -> Result<Page, Memory>
             CheckFault::Bad { number, place } => {
                 let name = fault.name();
                 let hint = hint_at(*number);
-                let bytes = fault_page(alloc, text, *number, name, *place, hint)?;
+                let mut bytes = fault_page(alloc, text, *number, name, *place, hint)?;
+                push_break(alloc, &mut bytes, text, border_at(*number, *place))?;
                 Ok(Page {
                     answer: Answer::Refused,
                     bytes,
@@ -121,22 +123,5 @@ fn push_place(page: &mut Vec<u8>, place: Option<Place>) -> Result<(), Memory>
     page.extend_from_slice(b":")?;
     page.extend_from_slice(second.format(place.col).as_bytes())?;
     page.push(b'\n')?;
-    Ok(())
-}
-
-/// The picture of a place, where there is one.
-fn push_picture(
-    alloc: Global,
-    page: &mut Vec<u8>,
-    text: &[u8],
-    place: Option<Place>,
-) -> Result<(), Memory>
-    ensures { OnOk result (page.new.items ≡ page.old.items ++ picture_part text.now place) }
-{
-    let Some(place) = place else {
-        return Ok(());
-    };
-    let shown = picture(alloc, text, place)?;
-    page.extend_from_slice(&shown)?;
     Ok(())
 }

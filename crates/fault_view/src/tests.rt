@@ -3,7 +3,7 @@ use std::test::Fail;
 use umix_base::MemSink;
 
 /// A text, and its page.
-const PAGES: [(&str, &str); 2] = [
+const PAGES: [(&str, &str); 3] = [
     (
         ",....,
 :a x :
@@ -25,6 +25,26 @@ No wire comes to this cell. Right beside a box only a `|` below or a `-` after i
 ",
         "refused 17 NoMain
 One module must have the name `main`.
+",
+    ),
+    (
+        ",..,
+:a :
+'...
+",
+        "refused 4 OpenFrame at 1:1
+        | ....+....1....+....2....+....3....+....4....+....5....+....6....+....7....+....8
+      1 | ,..,
+        | ^
+      2 | :a :
+      3 | '...
+From this corner no frame closes: mostly a border is a cell too short, too long, or has a gap.
+The bottom border breaks at 3:4:
+        | ....+....1....+....2....+....3....+....4....+....5....+....6....+....7....+....8
+      1 | ,..,
+      2 | :a :
+      3 | '...
+        |    ^
 ",
     ),
 ];

@@ -1,6 +1,6 @@
 -- The picture of the rows of a text around a place.
 use Rattle.std.specs.Prelude.{ℕ, ◌+◌, ◌-◌, ◌/◌, ◌%◌, ◌==◌, List, [], ◌∷◌, ◌++◌, map, drop, length}
-use Rattle.std.specs.Prelude.{slice_index_or, if◌then◌else◌, codes, decimal, min, nat_lt}
+use Rattle.std.specs.Prelude.{slice_index_or, if◌then◌else◌, codes, decimal, max, min, nat_lt}
 use Rattle.std.specs.List.{flat_map, range_with_len}
 use Rattle.std.specs.Str.{byte}
 use Rattle.umix_base.specs.declared.place.Place.{Place}
@@ -14,9 +14,10 @@ first_column col = if nat_lt 80 col then col - 40 else 1
 abbrev pub first_row : ℕ → ℕ
 first_row row = if nat_lt 4 row then row - 4 else 1
 
--- how many rows are shown around a row of so many: up to the one four rows below it, if it exists
+-- how many rows are shown around a row of so many: up to the one four rows below it, if it exists, and
+-- always the row itself
 abbrev pub row_count : ℕ → ℕ → ℕ
-row_count row most = min (row + 4) most + 1 - first_row row
+row_count row most = min (row + 4) (max most row) + 1 - first_row row
 
 -- what stands to the left of the cells: a label of up to seven columns, on the right, and a bar
 abbrev pub margin : List ℕ → List ℕ

@@ -66,11 +66,11 @@ fn first_row(row: usize) -> usize
     if row > 4 { row - 4 } else { 1 }
 }
 
-/// How many rows are shown around a row, of so many.
+/// How many rows are shown around a row, of so many; the row itself too where it isn't one of them.
 fn row_count(row: usize, most: usize) -> usize
     requires { row < 2 ^ 32 }
     ensures few { result ≤ 2 ^ 32 + 5 }
     ensures count { result ≡ plain.row_count row most }
 {
-    ((row + 4).min(most) + 1).saturating_sub(first_row(row))
+    ((row + 4).min(most.max(row)) + 1).saturating_sub(first_row(row))
 }

@@ -26,3 +26,10 @@ fn rows_around_a_place_are_shown(rt: HostRuntime) -> Result<(), Fail> {
     assert_eq!(rt; page.as_slice(), AROUND.as_bytes());
     Ok(())
 }
+
+#[test]
+fn a_row_behind_the_last_is_shown(rt: HostRuntime) -> Result<(), Fail> {
+    let page = picture(rt.alloc(), b"a\n", Place { row: 2, col: 2 })?;
+    assert!(rt; page.ends_with(b"\n      1 | a\n      2 | \n        |  ^\n"));
+    Ok(())
+}

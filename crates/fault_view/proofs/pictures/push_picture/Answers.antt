@@ -1,5 +1,5 @@
 use Rattle.std.proofs.Common.{◌++◌, ap, ◌∙◌}
-use Rattle.fault_view.proofs.pages.push_picture.Goals as goal
+use Rattle.fault_view.proofs.pictures.push_picture.Goals as goal
 
 pub returns : goal.returns
 returns c =

@@ -1,0 +1,4 @@
+pub mod Gaps
+pub mod Closing
+pub mod Bounds
+pub mod OneBreak
