@@ -21,10 +21,10 @@ codex run FILE [N]            runs the scroll in FILE for N cycles at most
 codex asm FILE OUT            the scroll of the assembly text in FILE, under OUT
 codex dis FILE                the scroll in FILE as an assembly text
 codex debug FILE INPUT        a session on the scroll in FILE, whose input is in INPUT
-codex selftest N              makes the program of a number, and tries all of this on it
+codex selftest N              makes the program of a number, checks, evaluates, compiles and runs it
 codex draw FILE               draws the program in FILE anew, in one layout
 codex type FILE SHEET         the program in FILE against the sheet of types in SHEET
-codex save FILE N OUT         runs N cycles, and writes the machine's image under OUT
+codex save FILE N OUT         runs N cycles at most, and writes the machine's image under OUT
 codex resume FILE N           goes on from the image in FILE for N cycles at most
 
 docs/EXPLAIN.md and docs/COMMANDS.md tell the rest.
