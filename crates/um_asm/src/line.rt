@@ -21,7 +21,7 @@ pub(crate) enum Statement<N> {
     /// An operator without a value.
     Operator(Op),
     /// `set` with its register.
-    SetTo(u8, Value<N>),
+    SetTo(u32, Value<N>),
     Word(Value<N>),
     /// The digits of `.hex`, eight to a word.
     Hex(N),

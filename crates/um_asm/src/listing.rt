@@ -88,17 +88,17 @@ fn push_mnemonic(text: &mut Vec<u8>, mnemonic: Mnemonic) -> Result<(), Memory>
     Ok(())
 }
 
-fn push_register(text: &mut Vec<u8>, before: &[u8], register: u8) -> Result<(), Memory>
+fn push_register(text: &mut Vec<u8>, before: &[u8], register: u32) -> Result<(), Memory>
     requires { register < 8 }
     ensures { OnOk result (text.new.items
         ≡ text.old.items ++ before.now ++ register_text register) }
 {
     text.extend_from_slice(before)?;
-    text.extend_from_slice(&[b'r', b'0' + register])?;
+    text.extend_from_slice(&[b'r', b'0' + register as u8])?;
     Ok(())
 }
 
-fn push_unary(text: &mut Vec<u8>, mnemonic: Mnemonic, c: u8) -> Result<(), Memory>
+fn push_unary(text: &mut Vec<u8>, mnemonic: Mnemonic, c: u32) -> Result<(), Memory>
     requires { c < 8 }
     ensures { OnOk result (text.new.items
         ≡ text.old.items ++ statement_text mnemonic (one c)) }
@@ -107,7 +107,7 @@ fn push_unary(text: &mut Vec<u8>, mnemonic: Mnemonic, c: u8) -> Result<(), Memor
     push_register(text, b" ", c)
 }
 
-fn push_binary(text: &mut Vec<u8>, mnemonic: Mnemonic, b: u8, c: u8) -> Result<(), Memory>
+fn push_binary(text: &mut Vec<u8>, mnemonic: Mnemonic, b: u32, c: u32) -> Result<(), Memory>
     requires { (b < 8) × (c < 8) }
     ensures { OnOk result (text.new.items
         ≡ text.old.items ++ statement_text mnemonic (two b c)) }
@@ -116,7 +116,13 @@ fn push_binary(text: &mut Vec<u8>, mnemonic: Mnemonic, b: u8, c: u8) -> Result<(
     push_register(text, b", ", c)
 }
 
-fn push_ternary(text: &mut Vec<u8>, mnemonic: Mnemonic, a: u8, b: u8, c: u8) -> Result<(), Memory>
+fn push_ternary(
+    text: &mut Vec<u8>,
+    mnemonic: Mnemonic,
+    a: u32,
+    b: u32,
+    c: u32,
+) -> Result<(), Memory>
     requires { (a < 8) × (b < 8) × (c < 8) }
     ensures { OnOk result (text.new.items
         ≡ text.old.items ++ statement_text mnemonic (three a b c)) }
@@ -125,7 +131,7 @@ fn push_ternary(text: &mut Vec<u8>, mnemonic: Mnemonic, a: u8, b: u8, c: u8) -> 
     push_register(text, b", ", c)
 }
 
-fn push_set(text: &mut Vec<u8>, a: u8, value: u32) -> Result<(), Memory>
+fn push_set(text: &mut Vec<u8>, a: u32, value: u32) -> Result<(), Memory>
     requires { a < 8 }
     ensures { OnOk result (text.new.items ≡ text.old.items ++ operator_text (op.Set a value)) }
 {

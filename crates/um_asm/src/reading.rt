@@ -234,14 +234,14 @@ fn three_operands(operands: Option<&[u8]>) -> Option<(&[u8], &[u8], &[u8])>
     Some((first, second, third))
 }
 
-fn one_register(operands: Option<&[u8]>) -> Option<u8>
+fn one_register(operands: Option<&[u8]>) -> Option<u32>
     ensures below { IfSome result (λ c. c < 8) }
     ensures register { result ≡ one_register (operands_in (option_copied operands.entry)) }
 {
     register_at(one_operand(operands)?)
 }
 
-fn two_registers(operands: Option<&[u8]>) -> Option<(u8, u8)>
+fn two_registers(operands: Option<&[u8]>) -> Option<(u32, u32)>
     ensures below { IfSome result (λ r. (r.0 < 8) × (r.1 < 8)) }
     ensures registers { result ≡ two_registers (operands_in (option_copied operands.entry)) }
 {
@@ -249,7 +249,7 @@ fn two_registers(operands: Option<&[u8]>) -> Option<(u8, u8)>
     Some((register_at(b)?, register_at(c)?))
 }
 
-fn three_registers(operands: Option<&[u8]>) -> Option<(u8, u8, u8)>
+fn three_registers(operands: Option<&[u8]>) -> Option<(u32, u32, u32)>
     ensures below { IfSome result (λ r. (r.0 < 8) × (r.1 < 8) × (r.2 < 8)) }
     ensures registers { result ≡ three_registers (operands_in (option_copied operands.entry)) }
 {

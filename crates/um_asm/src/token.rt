@@ -96,12 +96,12 @@ pub(crate) fn is_numeral(token: &[u8], radix: u32) -> bool
 }
 
 /// The register `r0` to `r7` that a token names.
-pub(crate) fn register_at(token: &[u8]) -> Option<u8>
+pub(crate) fn register_at(token: &[u8]) -> Option<u32>
     ensures register { result ≡ register_at token.now }
     ensures below { IfSome result (λ a. a < 8) }
 {
     match token {
-        [b'r', digit @ b'0'..=b'7'] => Some(*digit - b'0'),
+        [b'r', digit @ b'0'..=b'7'] => Some((*digit - b'0') as u32),
         _ => None,
     }
 }

@@ -50,7 +50,7 @@ pub fn run_counted<I: Source, O: Sink>(
 }
 
 // the register of the Input under the finger, if it is one
-fn input_register(machine: &Machine) -> Option<u8>
+fn input_register(machine: &Machine) -> Option<u32>
     ensures register { result ≡ asked_by (op_under (state_of machine.now [] [])) }
     ensures below { IfSome result (λ c. c < 8) }
 {
@@ -64,7 +64,7 @@ fn input_register(machine: &Machine) -> Option<u8>
 }
 
 // how many bytes an Input gave, whose register this is: one, or none at the end of the input
-fn given(machine: &Machine, asked: Option<u8>) -> u64
+fn given(machine: &Machine, asked: Option<u32>) -> u64
     requires { IfSome asked (λ c. c < 8) }
     ensures value { result ≡ given_by asked machine.now.registers }
     ensures small { result ≤ 1 }

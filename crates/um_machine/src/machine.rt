@@ -137,7 +137,7 @@ impl Machine {
     }
 
     /// The register of this number, which is below 8. Takes no memory.
-    pub fn register(&self, k: u8) -> u32
+    pub fn register(&self, k: u32) -> u32
         requires { k < 8 }
         ensures { result ≡ slice_index self.now.registers k }
     {
@@ -217,7 +217,7 @@ impl Machine {
     }
 
     // a register gets a value
-    fn set(&mut self, k: u8, value: u32)
+    fn set(&mut self, k: u32, value: u32)
         requires { k < 8 }
         ensures { self.new ≡ record self.old {
           registers = slice_set self.old.registers k value;
@@ -238,7 +238,7 @@ impl Machine {
     }
 
     // A becomes the platter at offset C of array B
-    fn index(&mut self, a: u8, b: u8, c: u8) -> Result<(), Stop>
+    fn index(&mut self, a: u32, b: u32, c: u32) -> Result<(), Stop>
         requires registers { (a < 8) × (b < 8) × (c < 8) }
         ensures { DoesRow (Op.Index a b c) self.old self.new result }
     {
@@ -252,7 +252,7 @@ impl Machine {
     }
 
     // the platter at offset B of array A becomes C
-    fn amend(&mut self, a: u8, b: u8, c: u8) -> Result<(), Stop>
+    fn amend(&mut self, a: u32, b: u32, c: u32) -> Result<(), Stop>
         requires registers { (a < 8) × (b < 8) × (c < 8) }
         ensures { DoesRow (Op.Amend a b c) self.old self.new result }
     {
@@ -266,7 +266,7 @@ impl Machine {
     }
 
     // a new array of C platters, whose identifier goes to B
-    fn allocate(&mut self, b: u8, c: u8) -> Result<(), Stop>
+    fn allocate(&mut self, b: u32, c: u32) -> Result<(), Stop>
         requires registers { (b < 8) × (c < 8) }
         ensures { DoesRow (Op.Alloc b c) self.old self.new result }
     {
@@ -282,7 +282,7 @@ impl Machine {
     }
 
     // array C is no more
-    fn abandon(&mut self, c: u8) -> Result<(), Stop>
+    fn abandon(&mut self, c: u32) -> Result<(), Stop>
         requires registers { c < 8 }
         ensures { DoesRow (Op.Abandon c) self.old self.new result }
     {
@@ -295,7 +295,7 @@ impl Machine {
     }
 
     // a duplicate of array B takes the place of array 0
-    fn load(&mut self, b: u8, c: u8) -> Result<(), Stop>
+    fn load(&mut self, b: u32, c: u32) -> Result<(), Stop>
         requires registers { (b < 8) × (c < 8) }
         ensures row { DoesRow (Op.Load b c) self.old self.new result }
         ensures registers { self.new.registers ≡ self.old.registers }

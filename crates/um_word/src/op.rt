@@ -8,33 +8,33 @@ ghost use Rattle.um_word.specs.Operators.{decode_word, encode_op, platter_of, Is
 #[derive(Clone, Copy, PartialEq, Eq, Debug)]
 pub enum Op {
     /// A becomes B unless C is 0.
-    Move(u8, u8, u8),
+    Move(u32, u32, u32),
     /// A becomes the platter at offset C of array B.
-    Index(u8, u8, u8),
+    Index(u32, u32, u32),
     /// The platter at offset B of array A becomes C.
-    Amend(u8, u8, u8),
+    Amend(u32, u32, u32),
     /// A becomes B + C modulo 2^32.
-    Add(u8, u8, u8),
+    Add(u32, u32, u32),
     /// A becomes B * C modulo 2^32.
-    Mul(u8, u8, u8),
+    Mul(u32, u32, u32),
     /// A becomes the unsigned quotient B / C.
-    Div(u8, u8, u8),
+    Div(u32, u32, u32),
     /// Each bit of A is 1 where the bit of B or of C is 0.
-    Nand(u8, u8, u8),
+    Nand(u32, u32, u32),
     /// The machine halts.
     Halt,
     /// A new array of C platters, all 0; its identifier goes to B.
-    Alloc(u8, u8),
+    Alloc(u32, u32),
     /// Array C is abandoned.
-    Abandon(u8),
+    Abandon(u32),
     /// The byte C is written.
-    Out(u8),
+    Out(u32),
     /// C becomes the next byte of the input, or 2^32 - 1 at its end.
-    Input(u8),
+    Input(u32),
     /// A duplicate of array B replaces array 0, and the finger becomes C.
-    Load(u8, u8),
+    Load(u32, u32),
     /// A becomes the value, which is below 2^25.
-    Set(u8, u32),
+    Set(u32, u32),
 }
 
 /// The operator of a platter, or `None` exactly where its number is 14 or 15. Takes no memory.
@@ -57,33 +57,34 @@ pub fn decode(word: u32) -> Option<Op>
         10 => Some(Op::Out(c(word))),
         11 => Some(Op::Input(c(word))),
         12 => Some(Op::Load(b(word), c(word))),
-        13 => Some(Op::Set(((word >> 25) & 7) as u8, word & 0x1ff_ffff)),
-        _ => None,
+        13 => Some(Op::Set((word >> 25) & 7, word & 0x1ff_ffff)),
+        14 | 15 => None,
+        _ => unreachable!(),
     }
 }
 
 // the number of register A
-fn a(word: u32) -> u8
+fn a(word: u32) -> u32
     ensures value { result ≡ word / 2 ^ 6 % 8 }
     ensures below { result < 8 }
 {
-    ((word >> 6) & 7) as u8
+    (word >> 6) & 7
 }
 
 // the number of register B
-fn b(word: u32) -> u8
+fn b(word: u32) -> u32
     ensures value { result ≡ word / 2 ^ 3 % 8 }
     ensures below { result < 8 }
 {
-    ((word >> 3) & 7) as u8
+    (word >> 3) & 7
 }
 
 // the number of register C
-fn c(word: u32) -> u8
+fn c(word: u32) -> u32
     ensures value { result ≡ word % 8 }
     ensures below { result < 8 }
 {
-    (word & 7) as u8
+    word & 7
 }
 
 /// The platter of an operator, in which unused bits are 0: decoding it gives the operator back.
@@ -107,17 +108,17 @@ pub fn encode(op: &Op) -> u32
         Op::Out(c) => platter(10, 0, 0, c),
         Op::Input(c) => platter(11, 0, 0, c),
         Op::Load(b, c) => platter(12, 0, b, c),
-        Op::Set(a, value) => (13 << 28) + ((a as u32) << 25) + value,
+        Op::Set(a, value) => (13 << 28) + (a << 25) + value,
     }
 }
 
 // the platter with an operator's number and registers, and no other bits
-fn platter(number: u32, a: u8, b: u8, c: u8) -> u32
+fn platter(number: u32, a: u32, b: u32, c: u32) -> u32
     requires number { number < 14 }
     requires a { a < 8 }
     requires b { b < 8 }
     requires c { c < 8 }
     ensures { result ≡ platter_of number a b c }
 {
-    (number << 28) + ((a as u32) << 6) + ((b as u32) << 3) + (c as u32)
+    (number << 28) + (a << 6) + (b << 3) + c
 }
