@@ -6,6 +6,7 @@ mod grids;
 mod images;
 mod limits;
 mod loads;
+mod meanings;
 mod selftests;
 mod sessions;
 mod types;

@@ -34,7 +34,7 @@ pub(super) const STUCK_INSIDE: &[&str] = &[
 ];
 
 // a module that uses `id`
-const USES_ID: &[&str] = &[
+pub(super) const USES_ID: &[&str] = &[
     ",.........................,",
     ":main                     :",
     ": *============*  *======*:",
@@ -44,10 +44,10 @@ const USES_ID: &[&str] = &[
 ];
 
 // a module whose west entry runs straight to an exit
-const ID: &[&str] = &[",....,", ":id  :", "------", "'....'"];
+pub(super) const ID: &[&str] = &[",....,", ":id  :", "------", "'....'"];
 
 // the same with a crossing in its wire
-const ID_CROSSED: &[&str] = &[",....,", ":id  :", "--#---", "'....'"];
+pub(super) const ID_CROSSED: &[&str] = &[",....,", ":id  :", "--#---", "'....'"];
 
 // two wires cross
 const CROSSING: &[&str] = &[
@@ -82,7 +82,7 @@ const MERGE: &[&str] = &[
 ];
 
 // the box that is stuck first by time is not the first by number
-const STUCK_TWICE: &[&str] = &[
+pub(super) const STUCK_TWICE: &[&str] = &[
     ",...............................................,",
     ":main                                           :",
     ": *============*  *===========*  *=============*:",
@@ -94,8 +94,23 @@ const STUCK_TWICE: &[&str] = &[
     "'...............................................'",
 ];
 
+// the box that is stuck first by number is the last that is kept
+pub(super) const STUCK_LATE: &[&str] = &[
+    ",..............................................,",
+    ":main                                          :",
+    ":                                 *=======*    :",
+    ":                              +->!split W!    :",
+    ": *============*  *=======*    |  *=======*    :",
+    ": !send[((),E)]!->!split W!    |               :",
+    ": *============*  *=======*    |               :",
+    ": *============*               |               :",
+    ": !send[((),E)]!---------------+               :",
+    ": *============*                               :",
+    "'..............................................'",
+];
+
 // two exits carry a value
-const TWO_RESULTS: &[&str] = &[
+pub(super) const TWO_RESULTS: &[&str] = &[
     ",...............,",
     ":main           :",
     ": *============*:",
@@ -108,7 +123,7 @@ const TWO_RESULTS: &[&str] = &[
 ];
 
 // no exit carries a value
-const NO_RESULT: &[&str] = &[
+pub(super) const NO_RESULT: &[&str] = &[
     ",.........,",
     ":main     :",
     ": *======*:",
@@ -209,7 +224,7 @@ const NO_COMMAND: &[&str] = &[
 ];
 
 // a stuck module two uses deep
-const TWO_CALLERS: &[&str] = &[
+pub(super) const TWO_CALLERS: &[&str] = &[
     ",........,",
     ":main    :",
     ": *=====*:",
@@ -231,7 +246,7 @@ const TWO_CALLERS: &[&str] = &[
 ];
 
 // a module that uses itself until it is stuck
-const DEEP_CALLERS: &[&str] = &[
+pub(super) const DEEP_CALLERS: &[&str] = &[
     ",.......................................,",
     ":main                                   :",
     ": *========================*  *========*:",
@@ -392,6 +407,12 @@ fn evaluations(rt: HostRuntime) -> Result<(), Fail> {
         ),
         told(
             EVAL,
+            &[STUCK_LATE],
+            "stuck: main box 1: no pair\n",
+            Status::Stuck,
+        ),
+        told(
+            EVAL,
             &[TWO_RESULTS],
             "stuck: main: two results\n",
             Status::Stuck,
@@ -541,6 +562,7 @@ fn scrolls(rt: HostRuntime) -> Result<(), Fail> {
         printed(&[SMALLEST], "()\n"),
         printed(&[USES_ID, ID], "()\n"),
         printed(&[STUCK_TWICE], "stuck: main box 3: no sum\n"),
+        printed(&[STUCK_LATE], "stuck: main box 1: no pair\n"),
         printed(&[TWO_RESULTS], "stuck: main: two results\n"),
         printed(&[NO_RESULT], "stuck: main: no result\n"),
         printed(&[TWO_CALLERS], TWO_CALLERS_TEXT),

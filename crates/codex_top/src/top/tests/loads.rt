@@ -28,7 +28,7 @@ struct Course {
     out: MemSink,
 }
 
-fn program_of(alloc: Global, grid: &[&[&str]]) -> Result<Program, Fail> {
+pub(super) fn program_of(alloc: Global, grid: &[&[&str]]) -> Result<Program, Fail> {
     let bytes = bytes_of_lines(alloc, grid)?;
     match check(alloc, &bytes) {
         Ok(program) => Ok(program),
@@ -135,7 +135,7 @@ fn loads_of_an_endless_program(rt: HostRuntime) -> Result<(), Fail> {
     assert!(rt; weight(&program) <= 262_144);
     let linked = compile(rt.alloc(), &program)?;
     let course = watched(&rt, &linked, 30_000)?;
-    assert!(rt; !course.loads.is_empty());
+    assert!(rt; course.loads.len() >= 10);
     for number in 0..course.loads.len() {
         let block = if number == 0 { 0 } else { 1 };
         assert_eq!(rt; course.loads[number], (Some(block), true));
