@@ -55,9 +55,9 @@ pub record IsBounded {I : Type 0} (bound : ℕ) (run : Standing I) : Type 0 wher
 
 -- How a run of these words with these loads stands. The loads are the first of the route, and all
 -- of it where the run has halted. Array 0 is the block that was loaded last, or the words where
--- none was. From the first load on, the boot's call of main, each array that was made for a block
--- holds this block. The operator that comes next takes no input and abandons no array. And the run
--- is within bounds, by its entries and the bytes that it wrote so far.
+-- none was. From the first load on, the boot's call of main, register 1 names a table of blocks, and
+-- each array that this table names holds its block. The operator that comes next takes no input and
+-- abandons no array. And the run is within bounds, by its entries and the bytes that it wrote so far.
 pub record Followed {I : Type 0} (P : Program) (words : List ℕ) (blocks : List (ℕ × ℕ))
     (route_to : ℕ → List (List ℕ × Bool))
     (run : Standing I) (loads : Loads) : Type 0 where
