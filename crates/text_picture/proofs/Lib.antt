@@ -1,2 +1,3 @@
 pub mod Pushed
 pub mod Short
+pub mod Window

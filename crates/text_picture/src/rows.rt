@@ -7,18 +7,21 @@ ghost use Rattle.text_picture.specs.Rows.{rows_read};
 
 use std::alloc::{AllocError, Global};
 
-/// The rows of a text.
-pub(crate) fn rows(alloc: Global, text: &[u8]) -> Result<Vec<&[u8]>, AllocError>
-    ensures { IfOk result (λ parts. rows_read parts.items ≡ plain.text_rows text.now) }
+/// So many of what stands between the LFs of a text, from a number on, which counts from 1.
+pub(crate) fn rows_from(
+    alloc: Global,
+    text: &[u8],
+    first: usize,
+    count: usize,
+) -> Result<Vec<&[u8]>, AllocError>
+    requires { 1 ≤ first }
+    ensures { IfOk result (λ rows. rows_read rows.items
+        ≡ take count (drop (first - 1) (slice_split (λ b. b == 10) text.now))) }
 {
-    parts(alloc, less_end(text, b'\n'))
-}
-
-/// What stands between the LFs of a text.
-fn parts(alloc: Global, text: &[u8]) -> Result<Vec<&[u8]>, AllocError>
-    ensures { IfOk result (λ parts. rows_read parts.items ≡ slice_split (λ b. b == 10) text.now) }
-{
-    text.split(|byte| *byte == b'\n').collect(alloc)
+    text.split(|byte| *byte == b'\n')
+        .skip(first - 1)
+        .take(count)
+        .collect(alloc)
 }
 
 /// The bytes without the last one, if it is this one.
@@ -34,13 +37,12 @@ pub(crate) fn less_end(bytes: &[u8], end: u8) -> &[u8]
     }
 }
 
-/// The row of a number, from 1; an empty one where there is none.
+/// The row at a place among these, from 0; an empty one where there is none.
 #[tactic(auto, using(crate::proofs::Pushed::row_there, crate::proofs::Pushed::row_none))]
-pub(crate) fn row_at<'a>(rows: &[&'a [u8]], number: usize) -> &'a [u8]
-    requires { 1 ≤ number }
-    ensures { result.now ≡ slice_index_or (rows_read rows.now) (number - 1) [] }
+pub(crate) fn row_at<'a>(rows: &[&'a [u8]], place: usize) -> &'a [u8]
+    ensures { result.now ≡ slice_index_or (rows_read rows.now) place [] }
 {
-    match rows.get(number - 1) {
+    match rows.get(place) {
         Some(row) => row,
         None => &[],
     }
