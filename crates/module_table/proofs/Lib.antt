@@ -8,6 +8,7 @@ pub mod ProgramWeight
 pub mod ProgramsRead
 pub mod Telling
 pub mod Building
+pub mod FirstRead
 pub mod WholeReading
 pub mod ModuleAt
 pub mod ModulesRead

@@ -7,7 +7,8 @@ use Rattle.two_d.specs.Program.{Drawn}
 use Rattle.two_d.specs.Programs.{module_of, modules_of}
 use Rattle.two_d.specs.declared.module.Module.{Module}
 use Rattle.module_table.specs.declared.corners.Corners.{Corners}
-use Rattle.module_table.specs.inner.Drawings.{IsModuleRead, AreCorners}
+use Rattle.module_table.specs.Drawn.{AreCorners}
+use Rattle.module_table.specs.inner.Drawings.{IsModuleRead}
 
 more : {A B C : Type 0} (f : A → C) (g : B → C) (xs : List A) (x : A) (ys : List B) (y : B) → map f xs ≡ map g ys → f x ≡ g y → map f (xs ++ x ∷ []) ≡ map g (ys ++ y ∷ [])
 more f g xs x ys y same one = map-append f xs (x ∷ []) ∙ (ap (λ l. l ++ f x ∷ []) same ∙ (ap (λ z. map g ys ++ z ∷ []) one ∙ sym (map-append g ys (y ∷ []))))

@@ -12,7 +12,6 @@ use Rattle.two_d.specs.Good.{trees_of}
 use Rattle.two_d.specs.Grammar as grammar
 use Rattle.two_d.specs.Grammar.{IsExp, IsSide, IsOut, AreOuts, IsCommand, IsTextOf}
 use Rattle.two_d.specs.Places.{Rect, at, inner_rows, inner_columns}
-use Rattle.two_d.specs.Trees as trees
 use Rattle.two_d.specs.Trees.{Tree, Form}
 use Rattle.two_d.specs.declared.command.Side.{Side}
 use Rattle.two_d.specs.Weights.{nodes, all_nodes}

@@ -18,7 +18,8 @@ use Rattle.module_table.specs.Answers.{answer_of, HasNumberOf}
 use Rattle.module_table.specs.declared.fault.CheckFault.TheVariants.{Bad}
 use Rattle.module_table.specs.declared.corners.Corners.{Corners}
 use Rattle.module_table.specs.declared.fault.CheckFault.{CheckFault}
-use Rattle.module_table.specs.inner.Drawings.{AreCorners, placed_reading}
+use Rattle.module_table.specs.Drawn.{AreCorners}
+use Rattle.module_table.specs.inner.Drawings.{placed_reading}
 use Rattle.module_table.proofs.ProgramsRead.{shapes, modules_sound, modules_few, told_ok, program_read}
 use Rattle.module_table.proofs.Telling.{refuses_whole, told_err}
 

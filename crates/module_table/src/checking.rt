@@ -6,12 +6,13 @@ ghost use Rattle.two_d.specs.Reading.{Gives, faults_mapped};
 ghost use Rattle.two_d.specs.Sound.{IsSound, LeadsOn};
 ghost use Rattle.two_d.specs.Weights.{weight};
 ghost use Rattle.module_table.specs.Answers.{answer_of};
-ghost use Rattle.module_table.specs.inner.Drawings.{AreModulesRead, placed_reading};
+ghost use Rattle.module_table.specs.Drawn.{AreModulesRead};
+ghost use Rattle.module_table.specs.inner.Drawings.{placed_reading};
 
 use crate::corners::placed;
+use crate::drawing::drawn;
 use crate::fault::CheckFault;
-use crate::modules::{Modules, modules_in};
-use grid_reader::{frames, read_grid};
+use crate::modules::Modules;
 use std::alloc::Global;
 use two_d::{Program, good_program};
 
@@ -23,9 +24,7 @@ pub fn check(alloc: Global, bytes: &[u8]) -> Result<Program, CheckFault>
     ensures weight { IfOk result (λ program. weight program ≤ length bytes.now) }
     ensures entries { IfOk result (λ program. All LeadsOn program) }
 {
-    let grid = read_grid(alloc, bytes)?;
-    let frames = frames(alloc, &grid)?;
-    let modules = modules_in(alloc, &grid, &frames)?;
+    let modules = drawn(alloc, bytes)?;
     program_from(alloc, modules)
 }
 

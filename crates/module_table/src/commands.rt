@@ -7,7 +7,8 @@ ghost use Rattle.two_d.specs.Cells.{Grid};
 ghost use Rattle.two_d.specs.Program.{CommandOf};
 ghost use Rattle.two_d.specs.Reading.{each};
 ghost use Rattle.two_d.specs.Trees.{form_of};
-ghost use Rattle.module_table.specs.inner.Drawings.{Tells, AreBare, IsRoomy, rect_between};
+ghost use Rattle.module_table.specs.Drawn.{Tells};
+ghost use Rattle.module_table.specs.inner.Drawings.{AreBare, IsRoomy, rect_between};
 
 use crate::fault::CheckFault;
 use box_parse::{BoxFault, parse};

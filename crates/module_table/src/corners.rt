@@ -10,7 +10,7 @@ ghost use Rattle.two_d.specs.Program.{Drawn, placed_fault};
 ghost use Rattle.grid_reader.specs.Boxes.{box_rects};
 ghost use Rattle.grid_reader.specs.Frames.{rect_of};
 ghost use Rattle.module_table.specs.Answers.{answer_of};
-ghost use Rattle.module_table.specs.inner.Drawings.{AreCorners};
+ghost use Rattle.module_table.specs.Drawn.{AreCorners};
 
 use crate::fault::CheckFault;
 use grid_reader::{BoxFrame, Frame};
@@ -18,15 +18,17 @@ use std::alloc::{AllocError, Global};
 use two_d::TableFault;
 use umix_base::Place;
 
-/// The corners of a module's frame and of its boxes.
+/// Where a module is drawn.
 #[derive(Debug, Drop)]
 pub struct Corners {
+    /// The upper left corner of its frame.
     pub frame: Place,
+    /// The upper left corners of its boxes, by their numbers.
     pub boxes: Vec<Place>,
 }
 
 /// The corners of a frame and of its boxes.
-pub fn corners_of(
+pub(crate) fn corners_of(
     alloc: Global,
     frame: &Frame,
     boxes: &Vec<BoxFrame>,
@@ -52,27 +54,37 @@ pub fn corners_of(
 }
 
 /// What is wrong with the list of modules, told by the places where they are drawn.
-pub fn placed(corners: &[Corners], fault: TableFault) -> CheckFault
+pub(crate) fn placed(corners: &[Corners], fault: TableFault) -> CheckFault
     ensures { (drawn : List Drawn) → AreCorners corners.now drawn
         → answer_of result ≡ option_map (λ wrong. number_and_place (placed_fault drawn wrong)) (wrong_of fault) }
 {
     match fault {
-        TableFault::SameName(module) => CheckFault::at(16, frame_at(corners, module)),
+        TableFault::SameName(module) => CheckFault::at(16, frame_corner(corners, module)),
         TableFault::NoMain => CheckFault::nowhere(17),
-        TableFault::MainHasInput(module) => CheckFault::at(18, frame_at(corners, module)),
-        TableFault::NoModule(module, number) => CheckFault::at(19, box_at(corners, module, number)),
+        TableFault::MainHasInput(module) => CheckFault::at(18, frame_corner(corners, module)),
+        TableFault::NoModule(module, number) => CheckFault::at(
+            19,
+            box_corner(corners, module, number),
+        ),
         TableFault::BadInputs(module, number) => CheckFault::at(
             20,
-            box_at(corners, module, number),
+            box_corner(corners, module, number),
         ),
-        TableFault::Unwired(module, number) => CheckFault::at(21, box_at(corners, module, number)),
-        TableFault::Cycle(module, number) => CheckFault::at(22, box_at(corners, module, number)),
+        TableFault::Unwired(module, number) => CheckFault::at(
+            21,
+            box_corner(corners, module, number),
+        ),
+        TableFault::Cycle(module, number) => CheckFault::at(
+            22,
+            box_corner(corners, module, number),
+        ),
         TableFault::Memory => CheckFault::Memory,
     }
 }
 
-/// The corner of a module's frame; row and column 0 where there is no such module.
-fn frame_at(corners: &[Corners], number: usize) -> Place
+/// The upper left corner of the frame of the module of this number, from 0; row and column 0 where
+/// there is none. Takes no memory.
+pub fn frame_corner(corners: &[Corners], number: usize) -> Place
     ensures { (drawn : List Drawn) → AreCorners corners.now drawn
         → result ≡ program.module_place drawn number }
 {
@@ -82,8 +94,9 @@ fn frame_at(corners: &[Corners], number: usize) -> Place
     }
 }
 
-/// The corner of a box of a module; row and column 0 where there is no such box.
-fn box_at(corners: &[Corners], number: usize, bx: usize) -> Place
+/// The upper left corner of a box of a module, both by number from 0; row and column 0 where there is
+/// none. Takes no memory.
+pub fn box_corner(corners: &[Corners], number: usize, bx: usize) -> Place
     ensures { (drawn : List Drawn) → AreCorners corners.now drawn
         → result ≡ program.box_place drawn number bx }
 {

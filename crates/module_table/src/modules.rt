@@ -5,7 +5,8 @@ ghost use Rattle.two_d.specs.Frames.{one_entry_a_side};
 ghost use Rattle.two_d.specs.Program.{module_in};
 ghost use Rattle.two_d.specs.Reading.{each};
 ghost use Rattle.grid_reader.specs.Frames.{IsFrameOf, rect_of, rects_of};
-ghost use Rattle.module_table.specs.inner.Drawings.{Tells, IsModuleRead, AreModulesRead};
+ghost use Rattle.module_table.specs.Drawn.{Tells, AreModulesRead};
+ghost use Rattle.module_table.specs.inner.Drawings.{IsModuleRead};
 
 use crate::commands::rows_of;
 use crate::corners::{Corners, corners_of};
@@ -16,15 +17,20 @@ use std::alloc::Global;
 use two_d::Module;
 use wire_trace::wires;
 
-/// Modules in the order of their frames, and where they are drawn.
+/// The modules of a text in reading order, and where they are drawn.
 #[derive(Drop)]
 pub struct Modules {
     pub modules: Vec<Module>,
+    /// The corners of each module, by its number.
     pub corners: Vec<Corners>,
 }
 
 /// The modules of a grid's frames, or the first fault in one.
-pub fn modules_in(alloc: Global, grid: &Grid, frames: &Vec<Frame>) -> Result<Modules, CheckFault>
+pub(crate) fn modules_in(
+    alloc: Global,
+    grid: &Grid,
+    frames: &Vec<Frame>,
+) -> Result<Modules, CheckFault>
     requires shown { All (IsFrameOf grid.now) frames.now.items }
     requires entries { All (λ frame. one_entry_a_side grid.now (rect_of frame) (Ok tt)) frames.now.items }
     ensures { Tells AreModulesRead result (each (module_in grid.now) (rects_of frames.now)) }

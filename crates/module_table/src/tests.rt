@@ -1,4 +1,4 @@
-use super::{CheckFault, check};
+use super::{CheckFault, check, drawn};
 use std::alloc::{AllocError, Global};
 use std::test::Fail;
 
@@ -623,6 +623,19 @@ fn a_program_has_the_modules_that_are_drawn(rt: HostRuntime) -> Result<(), Fail>
         "[Module { name: Name { bytes: [109, 97, 105, 110] }, \
         north: false, west: false, boxes: [BoxRow { command: Send([(Unit, E)]), \
         n: None, w: None }], exits: [Some(East(0))] }]"
+    );
+    Ok(())
+}
+
+#[test]
+fn modules_are_told_where_they_are_drawn(rt: HostRuntime) -> Result<(), Fail> {
+    let alloc = rt.alloc();
+    let drawn = drawn(alloc, ONE_BOX.as_bytes())?;
+    assert_eq!(rt; drawn.modules.len(), 1);
+    let corners = format!(in alloc; "{:?}", drawn.corners)?;
+    assert_eq!(rt;
+        corners.as_str(),
+        "[Corners { frame: Place { row: 1, col: 1 }, boxes: [Place { row: 3, col: 3 }] }]"
     );
     Ok(())
 }

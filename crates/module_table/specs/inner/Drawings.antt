@@ -1,15 +1,15 @@
 -- The modules of a grid as the code keeps them, and the places where they are drawn.
 use Rattle.std.specs.Prelude.{◌≡◌, ◌↔◌, ◌+◌, ◌-◌, ◌*◌, ◌<◌, ℕ, false, List, [], length, map}
-use Rattle.std.specs.Prelude.{slice_get, is_some, Result, Ok, Option, Some, None, MatchResult}
+use Rattle.std.specs.Prelude.{slice_get, is_some, Option, Some, None}
 use Rattle.std.specs.Prelude.{Contains}
 use Rattle.umix_base.specs.declared.place.Place.{Place}
 use Rattle.two_d.specs.Places.{Rect, corner_of}
 use Rattle.two_d.specs.Clean.{WireForm}
-use Rattle.two_d.specs.Faults.{TextFault, number_and_place}
+use Rattle.two_d.specs.Faults.{number_and_place}
 use Rattle.two_d.specs.Program.{Drawn, placed_fault}
-use Rattle.two_d.specs.Programs.{BoxForm, ModuleForm, Program, box_of, module_of, modules_of}
+use Rattle.two_d.specs.Programs.{BoxForm, ModuleForm, Program, box_of, module_of}
 use Rattle.two_d.specs.declared.module.Origin.{Origin}
-use Rattle.two_d.specs.Reading.{Reading, Refuses, faults_mapped}
+use Rattle.two_d.specs.Reading.{Reading, faults_mapped}
 use Rattle.two_d.specs.Sound.{Comes}
 use Rattle.two_d.specs.Table.{table_of}
 use Rattle.two_d.specs.Trees.{Form}
@@ -20,16 +20,6 @@ use Rattle.two_d.specs.declared.module.To.TheVariants.{N, W, Exit}
 use Rattle.grid_reader.specs.declared.box_frame.BoxFrame.{BoxFrame}
 use Rattle.grid_reader.specs.declared.frame.Frame.{Frame}
 use Rattle.module_table.specs.declared.corners.Corners.{Corners}
-use Rattle.module_table.specs.declared.fault.CheckFault.{CheckFault}
-use Rattle.module_table.specs.declared.modules.Modules.{Modules}
-use Rattle.module_table.specs.Answers.{answer_of}
-
--- What a function answered stands for what the reading gives, or its refusal tells the fault by
--- number and place.
-abbrev pub Tells : {X A : Type 0} → (X → A → Type 0) → Result X CheckFault → Reading TextFault A → Type 0
-Tells {A = A} Is result m =
-    MatchResult result (λ x. (a : A) × m (Ok a) × Is x a)
-    (λ e. Refuses (faults_mapped number_and_place m) (answer_of e))
 
 -- the rectangle with these opposite corners
 abbrev pub rect_between : Place → Place → Rect
@@ -91,16 +81,6 @@ pub record IsModuleRead (x : Module × Corners) (d : Drawn) : Type 0 where
   pub shape : module_of x.0 ≡ d.shape
   pub frame : x.1.frame ≡ corner_of d.frame
   pub boxes : x.1.boxes.items ≡ map corner_of d.boxes
-
--- the corners of modules and of their boxes
-pub record AreCorners (corners : List Corners) (ds : List Drawn) : Type 0 where
-  pub frames : map (λ (c : Corners). c.frame) corners ≡ map (λ (d : Drawn). corner_of d.frame) ds
-  pub boxes : map (λ (c : Corners). c.boxes.items) corners ≡ map (λ (d : Drawn). map corner_of d.boxes) ds
-
--- modules and their corners are those of what was read
-pub record AreModulesRead (x : Modules) (ds : List Drawn) : Type 0 where
-  pub shapes : modules_of x.modules.items ≡ map (λ (d : Drawn). d.shape) ds
-  pub corners : AreCorners x.corners.items ds
 
 -- the program of modules that were read, or what is wrong with them by number and place
 abbrev pub placed_reading : List Drawn → Reading (ℕ × Option Place) Program

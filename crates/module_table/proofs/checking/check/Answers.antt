@@ -1,58 +1,31 @@
--- Grid, frames, modules, and the program that they make.
+-- The modules, and the program that they make.
 use Rattle.std.proofs.lemmas.Result.{err_from_is_err_and}
-use Rattle.grid_reader.specs.Faults.{fault_of}
-use Rattle.grid_reader.specs.Frames.{rects_of}
-use Rattle.two_d.specs.Cells.{grid_of}
 use Rattle.two_d.specs.Faults.{number_and_place}
-use Rattle.two_d.specs.Frames.{frames_of}
-use Rattle.two_d.specs.Program.{module_in, program_of}
-use Rattle.two_d.specs.Reading.{goes_on, stops, each}
+use Rattle.two_d.specs.Program.{program_of}
 use Rattle.module_table.specs.Answers.{answer_of}
-use Rattle.module_table.proofs.WholeReading.{gives_whole, sound_list, few_listed, light_program, leading_program}
-use Rattle.module_table.proofs.ModuleAt.{part_refused}
+use Rattle.module_table.specs.Drawn.{drawn_of}
+use Rattle.module_table.proofs.FirstRead.{drawn_gives, drawn_refused}
+use Rattle.module_table.proofs.WholeReading.{light_program, leading_program}
 use Rattle.module_table.proofs.Telling.{refuses_whole}
 use Rattle.module_table.proofs.checking.check.Goals as goal
 
-pub returns-in_err-grid-clause-read : goal.returns-in_err-grid-clause-read
-returns-in_err-grid-clause-read c =
-    let p = err_from_is_err_and c.from_residual.result c.from_residual.ensures.1 in
-    rw p.1 (part_refused (fault_of c.in_err-grid.field-0.0) (answer_of p.0) (grid_of c.args.bytes.now) (program_of c.args.bytes.now) (λ f h. stops f h) p.2 c.in_err-grid.ensures)
-
-pub returns-in_err-frames-clause-read : goal.returns-in_err-frames-clause-read
-returns-in_err-frames-clause-read c =
-    let p = err_from_is_err_and c.from_residual-in_err-frames.result c.from_residual-in_err-frames.ensures.1 in
-    rw p.1 (part_refused (fault_of c.in_err-frames.field-0.0) (answer_of p.0) (frames_of c.in_ok-grid.grid) (program_of c.args.bytes.now) (λ f h. goes_on c.in_ok-grid.grid c.in_ok-grid.ensures (stops f h)) p.2 c.in_err-frames.ensures.read)
-
 pub returns-in_err-modules-clause-read : goal.returns-in_err-modules-clause-read
 returns-in_err-modules-clause-read c =
-    let p = err_from_is_err_and c.from_residual-in_err-modules.result c.from_residual-in_err-modules.ensures.1 in
-    let fs = rects_of c.in_ok-frames.frames in
-    rw (p.1, p.2) (refuses_whole number_and_place (answer_of c.in_err-modules.field-0.0) (each (module_in c.in_ok-grid.grid) fs) (program_of c.args.bytes.now)
-    (λ f h. goes_on c.in_ok-grid.grid c.in_ok-grid.ensures (goes_on fs c.in_ok-frames.ensures.read (stops f h))) c.in_err-modules.ensures)
-
-pub program_from-requires-clause-few : goal.program_from-requires-clause-few
-program_from-requires-clause-few c =
-    let (ds, read, are) = c.in_ok-modules.ensures in
-    few_listed c.args.bytes.now c.in_ok-grid.grid (rects_of c.in_ok-frames.frames) ds c.in_ok-grid.ensures c.in_ok-frames.ensures.read read c.in_ok-modules.modules.modules.items are.shapes
-
-pub program_from-requires-clause-sound : goal.program_from-requires-clause-sound
-program_from-requires-clause-sound c =
-    let (ds, read, are) = c.in_ok-modules.ensures in
-    sound_list c.args.bytes.now c.in_ok-grid.grid (rects_of c.in_ok-frames.frames) ds c.in_ok-grid.ensures c.in_ok-frames.ensures.read read c.in_ok-modules.modules.modules.items are.shapes
+    let p = err_from_is_err_and c.from_residual.result c.from_residual.ensures.1 in
+    rw (p.1, p.2) (refuses_whole number_and_place (answer_of c.in_err-modules.field-0.0) (drawn_of c.args.bytes.now) (program_of c.args.bytes.now)
+    (λ f h. drawn_refused c.args.bytes.now f h) c.in_err-modules.ensures.read)
 
 pub returns-clause-read : goal.returns-clause-read
 returns-clause-read c =
-    let (ds, read, are) = c.in_ok-modules.ensures in
-    gives_whole c.args.bytes.now c.in_ok-grid.grid (rects_of c.in_ok-frames.frames) ds c.in_ok-grid.ensures c.in_ok-frames.ensures.read read c.program_from.result (c.program_from.ensures ds are)
+    let (ds, read, are) = c.in_ok-modules.ensures.read in
+    drawn_gives c.args.bytes.now ds read c.program_from.result (c.program_from.ensures ds are)
 
 pub returns-clause-weight : goal.returns-clause-weight
 returns-clause-weight c =
-    let (ds, read, are) = c.in_ok-modules.ensures in
-    light_program c.args.bytes.now c.program_from.result
-    (gives_whole c.args.bytes.now c.in_ok-grid.grid (rects_of c.in_ok-frames.frames) ds c.in_ok-grid.ensures c.in_ok-frames.ensures.read read c.program_from.result (c.program_from.ensures ds are))
+    let (ds, read, are) = c.in_ok-modules.ensures.read in
+    light_program c.args.bytes.now c.program_from.result (drawn_gives c.args.bytes.now ds read c.program_from.result (c.program_from.ensures ds are))
 
 pub returns-clause-entries : goal.returns-clause-entries
 returns-clause-entries c =
-    let (ds, read, are) = c.in_ok-modules.ensures in
-    leading_program c.args.bytes.now c.program_from.result
-    (gives_whole c.args.bytes.now c.in_ok-grid.grid (rects_of c.in_ok-frames.frames) ds c.in_ok-grid.ensures c.in_ok-frames.ensures.read read c.program_from.result (c.program_from.ensures ds are))
+    let (ds, read, are) = c.in_ok-modules.ensures.read in
+    leading_program c.args.bytes.now c.program_from.result (drawn_gives c.args.bytes.now ds read c.program_from.result (c.program_from.ensures ds are))

@@ -2,7 +2,7 @@
 use Rattle.std.proofs.Common.{sym, subst}
 use Rattle.two_d.specs.inner.TableFaults.{wrong_of}
 use Rattle.module_table.specs.Answers.{answer_of}
-use Rattle.module_table.specs.inner.Drawings.{AreCorners}
+use Rattle.module_table.specs.Drawn.{AreCorners}
 use Rattle.module_table.proofs.ModuleAt.{table_gave, table_refused}
 use Rattle.module_table.proofs.checking.program_from.Goals as goal
 

@@ -9,7 +9,7 @@ use Rattle.two_d.specs.Program.{module_in}
 use Rattle.two_d.specs.Programs.{module_of}
 use Rattle.two_d.specs.Reading.{gave, each}
 use Rattle.module_table.specs.Answers.{answer_of}
-use Rattle.module_table.specs.inner.Drawings.{AreCorners}
+use Rattle.module_table.specs.Drawn.{AreCorners}
 use Rattle.module_table.proofs.ModulesRead.{shapes_more, corners_more}
 use Rattle.module_table.proofs.Telling.{refuses_whole, each_more, each_stops, mapped_there}
 use Rattle.module_table.proofs.modules.modules_in.Goals as goal

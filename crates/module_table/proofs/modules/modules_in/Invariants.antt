@@ -3,7 +3,7 @@ use Rattle.std.specs.Prelude.{List, take, Ok}
 use Rattle.grid_reader.specs.Frames.{rects_of}
 use Rattle.two_d.specs.Program.{Drawn, module_in}
 use Rattle.two_d.specs.Reading.{each}
-use Rattle.module_table.specs.inner.Drawings.{AreModulesRead}
+use Rattle.module_table.specs.Drawn.{AreModulesRead}
 use Rattle.module_table.proofs.modules.modules_in.Given as goal
 
 abbrev pub invariant-frames : goal.invariant-frames

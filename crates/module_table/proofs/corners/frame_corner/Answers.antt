@@ -4,7 +4,7 @@ use Rattle.std.proofs.lemmas.List.{get_or-map}
 use Rattle.two_d.specs.Places.{at}
 use Rattle.module_table.specs.declared.corners.Corners.{Corners}
 use Rattle.module_table.proofs.WholeReading.{frame_kept}
-use Rattle.module_table.proofs.corners.frame_at.Goals as goal
+use Rattle.module_table.proofs.corners.frame_corner.Goals as goal
 
 pub returns-in-Some : goal.returns-in-Some
 returns-in-Some c = λ drawn are.
