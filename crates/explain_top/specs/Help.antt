@@ -7,6 +7,7 @@ help_text =
     codes "explain shows a person what a file is, and where its fault is. codex does the work.\n"
     ++ codes "\n"
     ++ codes "explain grid FILE    shows the drawing in FILE around its fault, and says what is wrong\n"
+    ++ codes "explain stuck FILE   evaluates the program in FILE, and shows the boxes where it is stuck\n"
     ++ codes "explain asm FILE     lists the assembly text in FILE with its words, or shows its fault\n"
     ++ codes "explain help         this text\n"
     ++ codes "\n"

@@ -10,6 +10,7 @@ pub fn help() -> &'static str
     "explain shows a person what a file is, and where its fault is. codex does the work.
 
 explain grid FILE    shows the drawing in FILE around its fault, and says what is wrong
+explain stuck FILE   evaluates the program in FILE, and shows the boxes where it is stuck
 explain asm FILE     lists the assembly text in FILE with its words, or shows its fault
 explain help         this text
 

@@ -12,6 +12,10 @@ pub enum Status {
     Refused,
     /// The words ask for nothing that is known.
     Usage,
+    /// The page shows where the program of the file is stuck.
+    Stuck,
+    /// The program of the file has come to nothing within so many events.
+    Budget,
     /// The file couldn't be read.
     ReadFault,
     /// The output, or a line on `err`, couldn't be written.
@@ -29,6 +33,8 @@ impl Status {
             Status::Done => 0,
             Status::Refused => 1,
             Status::Usage => 2,
+            Status::Stuck => 3,
+            Status::Budget => 6,
             Status::ReadFault => 7,
             Status::WriteFault => 8,
             Status::Memory => 9,
@@ -43,7 +49,7 @@ impl Status {
             Status::ReadFault => Some("read fault\n"),
             Status::WriteFault => Some("write fault\n"),
             Status::Memory => Some("no memory\n"),
-            Status::Done | Status::Refused | Status::Usage => None,
+            Status::Done | Status::Refused | Status::Usage | Status::Stuck | Status::Budget => None,
         }
     }
 }

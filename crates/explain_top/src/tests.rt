@@ -53,6 +53,9 @@ fn does_what_the_words_ask_for(rt: HostRuntime) -> Result<(), Fail> {
         &rt,
         &expects(&["grid", "h"], Status::ReadFault, "", "read fault\n"),
     )?;
+    let silent = "stuck: main: no result\n";
+    check(&rt, &expects(&["stuck", "f"], Status::Stuck, silent, ""))?;
+    check(&rt, &expects(&["stuck", "g"], Status::Refused, none, ""))?;
     check(&rt, &expects(&["help"], Status::Done, "explain shows", ""))?;
     check(&rt, &expects(&["grid"], Status::Usage, "", "explain shows"))?;
     check(&rt, &expects(&[], Status::Usage, "", "explain shows"))

@@ -3,8 +3,8 @@
 ghost use Rattle.std.specs.Prelude.{◌≡◌, ◌<◌, ◌^◌, map, string_bytes};
 ghost use Rattle.explain_top.specs.Outside.{shelved, told};
 ghost use Rattle.explain_top.specs.Explaining as plain;
-ghost use Rattle.explain_top.specs.Explaining.{Explained, IsPut, IsTold, ListingShown, PageShown};
-ghost use Rattle.explain_top.specs.Explaining.{TextListed, TextRead};
+ghost use Rattle.explain_top.specs.Explaining.{DrawingShown, Explained, IsPut, IsTold, ListingShown};
+ghost use Rattle.explain_top.specs.Explaining.{PageShown, ProgramShown, StuckShown, TextListed, TextRead};
 
 use crate::Status;
 use crate::help::help;
@@ -12,6 +12,7 @@ use crate::words::{Job, job_of};
 use asm_view::{Answer as TextAnswer, asm_page};
 use fault_view::{Answer, PageFault, grid_page};
 use std::alloc::Global;
+use stuck_view::{Answer as StuckAnswer, stuck_page};
 use umix_base::{Failed, Memory, Shelf, ShelfFault, Sink};
 
 /// The most bytes of a drawing.
@@ -26,7 +27,7 @@ const TEXT_TOO_LONG: &str = "refused 46 TextTooLong\n";
 /// Does what the words of a command line ask for, without the program's name: writes the page of a
 /// file to the output, or the help text; and to `err` the help text where the words ask for nothing
 /// that is known, or a line where the file wasn't read or the page wasn't written whole. Linear in
-/// the file, but for what a check takes. See docs/EXPLAIN.md.
+/// the file, but for what a check takes and, for `stuck`, an evaluation. See docs/EXPLAIN.md.
 pub fn explain<F: Shelf, O: Sink, E: Sink>(
     alloc: Global,
     words: &Vec<String>,
@@ -44,6 +45,10 @@ pub fn explain<F: Shelf, O: Sink, E: Sink>(
             let status = show_grid(alloc, file, shelf, out);
             tell(status, err)
         }
+        Some(Job::Stuck { file }) => {
+            let status = show_stuck(alloc, file, shelf, out);
+            tell(status, err)
+        }
         Some(Job::Asm { file }) => {
             let status = show_listing(alloc, file, shelf, out);
             tell(status, err)
@@ -59,13 +64,56 @@ fn show_grid<F: Shelf, O: Sink>(alloc: Global, file: &str, shelf: &mut F, out: &
         (told O.Sink out.old) (told O.Sink out.new) result }
 {
     match read_text(alloc, MOST_GRID_BYTES, file, shelf) {
-        Ok(text) => match grid_page(alloc, &text, out) {
-            Ok(Answer::Program) => Status::Done,
-            Ok(Answer::Refused) => Status::Refused,
-            Err(PageFault::Failed) => Status::WriteFault,
-            Err(PageFault::Memory) => Status::Memory,
-        },
+        Ok(text) => show_drawing(alloc, &text, out),
         Err(status) => status,
+    }
+}
+
+/// Writes the page of a drawing.
+fn show_drawing<O: Sink>(alloc: Global, text: &[u8], out: &mut O) -> Status
+    ensures { DrawingShown text.now (told O.Sink out.old) (told O.Sink out.new) result }
+{
+    match grid_page(alloc, text, out) {
+        Ok(Answer::Program) => Status::Done,
+        Ok(Answer::Refused) => Status::Refused,
+        Err(PageFault::Failed) => Status::WriteFault,
+        Err(PageFault::Memory) => Status::Memory,
+    }
+}
+
+/// Writes where the program of the drawing in the file is stuck, or the page of a drawing that has none.
+fn show_stuck<F: Shelf, O: Sink>(alloc: Global, file: &str, shelf: &mut F, out: &mut O) -> Status
+    ensures { StuckShown file.now (shelved F.Shelf shelf.old) (shelved F.Shelf shelf.new)
+        (told O.Sink out.old) (told O.Sink out.new) result }
+{
+    match read_text(alloc, MOST_GRID_BYTES, file, shelf) {
+        Ok(text) => show_program(alloc, &text, out),
+        Err(status) => status,
+    }
+}
+
+/// Writes where the program of a drawing is stuck, or the page of a drawing that has none.
+fn show_program<O: Sink>(alloc: Global, text: &[u8], out: &mut O) -> Status
+    ensures { ProgramShown text.now (told O.Sink out.old) (told O.Sink out.new) result }
+{
+    match stuck_page(alloc, text) {
+        Ok(page) => match ending_of(page.answer) {
+            Some(status) => send(&page.bytes, status, out),
+            None => show_drawing(alloc, text, out),
+        },
+        Err(Memory) => Status::Memory,
+    }
+}
+
+/// The status that tells how a program ends, where there is one.
+fn ending_of(answer: StuckAnswer) -> Option<Status>
+    ensures { result ≡ plain.ending_of answer }
+{
+    match answer {
+        StuckAnswer::Value => Some(Status::Done),
+        StuckAnswer::Stuck => Some(Status::Stuck),
+        StuckAnswer::Unended => Some(Status::Budget),
+        StuckAnswer::Refused => None,
     }
 }
 

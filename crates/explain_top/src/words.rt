@@ -8,6 +8,8 @@ ghost use Rattle.explain_top.specs.Words.{IsFound};
 pub enum Job<'a> {
     /// To show the drawing in this file.
     Grid { file: &'a str },
+    /// To show where the program of the drawing in this file is stuck.
+    Stuck { file: &'a str },
     /// To list the assembly text in this file.
     Asm { file: &'a str },
     /// To tell the words of both programs.
@@ -23,6 +25,7 @@ pub fn job_of(words: &Vec<String>) -> Option<Job<'_>>
     };
     match command.as_str() {
         "grid" => grid_of(rest),
+        "stuck" => stuck_of(rest),
         "asm" => asm_of(rest),
         "help" => help_of(rest),
         _ => None,
@@ -34,6 +37,17 @@ fn grid_of(rest: &[String]) -> Option<Job<'_>>
 {
     match rest {
         [file] => Some(Job::Grid {
+            file: file.as_str(),
+        }),
+        _ => None,
+    }
+}
+
+fn stuck_of(rest: &[String]) -> Option<Job<'_>>
+    ensures { IsFound (codes "stuck" ∷ map string_bytes rest.now) result }
+{
+    match rest {
+        [file] => Some(Job::Stuck {
             file: file.as_str(),
         }),
         _ => None,
