@@ -1,6 +1,8 @@
 """The page of `explain grid`, by docs/EXPLAIN.md, from the line of `codex check`: the rows around the place, the sentence of
-the fault, and the cell where the border of a frame or box breaks."""
+the fault, the cell where the border of a frame or box breaks, and the module or box that a fault is about."""
 import re
+
+import grid
 
 # the sentence of each fault, by its number
 SENTENCES = {
@@ -89,6 +91,43 @@ def border_break(text, row, col, sides):
     return None
 
 
+def ring(module, box):
+    """The boxes for which a box waits, back to itself: the nearest ones, those of the north side first."""
+    found, via = [box], [0]
+    for place, here in enumerate(found):
+        feeders = grid.sources(module.boxes[here])
+        if box in feeders:
+            way = []
+            while place:
+                way.append(found[place])
+                place = via[place]
+            return way[::-1] + [box]
+        for feeder in feeders:
+            if feeder not in found:
+                found.append(feeder)
+                via.append(place)
+    raise AssertionError('a box of a cycle is in no ring')
+
+
+def subject(number, text, row, col):
+    """What is told of the module or box at the place of a fault of the list of modules."""
+    cells = grid.Cells(text)
+    frames = grid.frames(cells)
+    modules = [grid.module(cells, frame) for frame in frames]
+    if number == 16:
+        named = next(module.name for frame, (module, _) in zip(frames, modules) if (frame.top, frame.left) == (row, col))
+        first = next(frame for frame, (module, _) in zip(frames, modules) if module.name == named)
+        return ['The first one stands here:'] + picture(text, first.top, first.left)
+    module, corners = next(each for each in modules if (row, col) in each[1])
+    box = corners.index((row, col))
+    lines = ['It is %s box %d.' % (module.name, box + 1)]
+    for place, waited in enumerate(ring(module, box) if number == 22 else []):
+        lines.append('  waits for %s box %d' % (module.name, waited + 1))
+        if place < 9:
+            lines += picture(text, *corners[waited])
+    return lines
+
+
 def page(line, text):
     """The page of a drawing, of which `check` says this line."""
     lines = [line]
@@ -103,4 +142,6 @@ def page(line, text):
         if found:
             lines.append('The %s border breaks at %d:%d:' % found)
             lines += picture(text, *found[1:])
+        if number in (16, 19, 20, 21, 22):
+            lines += subject(number, text, *place)
     return ''.join(each + '\n' for each in lines)

@@ -1,3 +1,4 @@
 pub mod Boxes
 pub mod Cells
 pub mod PageLemmas
+pub mod Named

@@ -16,7 +16,9 @@ use Rattle.module_table.specs.declared.fault.CheckFault.{CheckFault}
 use Rattle.module_table.specs.declared.fault.CheckFault.TheVariants.{Bad}
 use Rattle.fault_view.specs.Breaks.{AddsBreak, IsBorderTold, border_of}
 use Rattle.fault_view.specs.Hints.{hint_of}
+use Rattle.fault_view.specs.Subjects.{AddsSubject, IsSubjectTold, subject_of}
 use Rattle.fault_view.specs.declared.breaks.Border.{Border}
+use Rattle.fault_view.specs.declared.subject.Subject.{Subject}
 use Rattle.fault_view.specs.Pages.{IsPage, PageWritten, cut, fault_page, of_fault, of_program, ok_line, page_with, written}
 use Rattle.fault_view.specs.declared.page.Answer.{Answer}
 use Rattle.fault_view.specs.declared.page.Answer.TheVariants as answer
@@ -65,22 +67,26 @@ pages_same : (text : List ℕ) (f : TextFault) (number : ℕ) (place : Option Pl
 pages_same text f number place name hint numbered named placed hinted =
     rw (numbered, named, placed, hinted) refl
 
-pub fault_told : (text : List ℕ) (e : CheckFault) (number : ℕ) (place : Option Place) (name hint first bytes : List ℕ) (border : Option Border)
+pub fault_told : (text : List ℕ) (e : CheckFault) (number : ℕ) (place : Option Place) (name hint first second bytes : List ℕ) (border : Option Border) (subject : Option Subject)
     → e ≡ Bad number place
     → Refuses (faults_mapped number_and_place (program_of text)) (answer_of e) → ((f : TextFault) → HasNumberOf e f → name ≡ (told_as f).1)
     → ((f : TextFault) → (told_as f).0 ≡ number → hint ≡ hint_of f)
     → ((f : TextFault) → (told_as f).0 ≡ number → (told_as f).2 ≡ place → border ≡ border_of f)
-    → first ≡ page_with text number name place hint → AddsBreak text border first bytes → IsPage text answer.Refused bytes
-fault_told text e number place name hint first bytes border same refused named hinted bordered is (more, tells, added) =
+    → ((f : TextFault) → (told_as f).0 ≡ number → (told_as f).2 ≡ place → subject ≡ subject_of f)
+    → first ≡ page_with text number name place hint → AddsBreak text border first second → AddsSubject text subject second bytes → IsPage text answer.Refused bytes
+fault_told text e number place name hint first second bytes border subject same refused named hinted bordered is_about is (more, tells, added) (last, tells_last, added_last) =
     let (f, reads, told) = fault_read text e number place same refused in
     let numbered : number ≡ (told_as f).0 = ap (λ (p : ℕ × Option Place). p.0) told in
     let placed : place ≡ (told_as f).2 = ap (λ (p : ℕ × Option Place). p.1) told in
     let as_named : name ≡ (told_as f).1 = named f (has_number e number place f same told) in
     let as_hinted : hint ≡ hint_of f = hinted f (sym numbered) in
-    let as_told : IsBorderTold text (border_of f) more =
+    let border_told : IsBorderTold text (border_of f) more =
     subst (λ (b : Option Border). IsBorderTold text b more) (bordered f (sym numbered) (sym placed)) tells in
-    rw (added ∙ ap (λ (page : List ℕ). page ++ more) (is ∙ pages_same text f number place name hint numbered as_named placed as_hinted))
-    (of_fault f more reads as_told)
+    let subject_told : IsSubjectTold text (subject_of f) last =
+    subst (λ (s : Option Subject). IsSubjectTold text s last) (is_about f (sym numbered) (sym placed)) tells_last in
+    let between = added ∙ ap (λ (page : List ℕ). page ++ more) (is ∙ pages_same text f number place name hint numbered as_named placed as_hinted) in
+    rw (added_last ∙ ap (λ (page : List ℕ). page ++ last) between)
+    (of_fault f more last reads border_told subject_told)
 
 -- a page that was put, whole and in part
 pub put_whole : (text : List ℕ) (a : Answer) (page piece : List ℕ) (old new : Option (List ℕ)) → piece ≡ page → IsPage text a page

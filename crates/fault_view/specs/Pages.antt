@@ -9,6 +9,7 @@ use Rattle.two_d.specs.Programs.{Program}
 use Rattle.fault_view.specs.Boxes.{boxes_in}
 use Rattle.fault_view.specs.Breaks.{IsBorderTold, border_of}
 use Rattle.fault_view.specs.Hints.{hint_of}
+use Rattle.fault_view.specs.Subjects.{IsSubjectTold, subject_of}
 use Rattle.fault_view.specs.declared.page.Answer.{Answer}
 use Rattle.fault_view.specs.declared.page.Answer.TheVariants as answer
 use Rattle.fault_view.specs.declared.page.PageFault.{PageFault}
@@ -43,11 +44,13 @@ abbrev pub fault_page : List ℕ → TextFault → List ℕ
 fault_page text f =
     page_with text (told_as f).0 (told_as f).1 (told_as f).2 (hint_of f)
 
--- the page of a text, which is a program or has a first fault; with where a border breaks
+-- the page of a text, which is a program or has a first fault; with where a border breaks, and with
+-- what is told of the module or box that the fault is about
 pub data IsPage (text : List ℕ) : Answer → List ℕ → Type 0 where
   of_program : (P : Program) → program_of text (Ok P) → IsPage text answer.Program (ok_line P)
-  of_fault : (f : TextFault) (told : List ℕ) → program_of text (Err f) →
-      IsBorderTold text (border_of f) told → IsPage text answer.Refused (fault_page text f ++ told)
+  of_fault : (f : TextFault) (border subject : List ℕ) → program_of text (Err f) →
+      IsBorderTold text (border_of f) border → IsSubjectTold text (subject_of f) subject →
+      IsPage text answer.Refused (fault_page text f ++ border ++ subject)
 
 -- The page was written whole, and its answer is told; or a beginning of it was written; or there
 -- was no memory, and nothing was.

@@ -3,10 +3,13 @@
 #![tactic(auto)]
 
 mod breaks;
+mod found;
 mod hints;
 mod page;
 mod pages;
+mod parts;
 mod pictures;
+mod subject;
 
 pub use page::{Answer, PageFault, grid_page};
 

@@ -38,7 +38,9 @@ impl From<Memory> for PageFault {
 /// Writes the page of a text: the line that `check` prints of it, `ok M B` or that of its first
 /// fault; of a fault with a place the rows around it, with a mark under its cell; and of each fault
 /// a sentence on what usually is wrong; of a frame or box that doesn't close also where its border
-/// breaks (docs/EXPLAIN.md, "The page of a drawing"). Takes the time of two checks at most.
+/// breaks; of a module that has the name of an earlier one that one; of a box which it is, and of one
+/// that waits for itself for which boxes (docs/EXPLAIN.md, "The page of a drawing"). Takes the time of
+/// two checks at most.
 pub fn grid_page<O: Sink>(alloc: Global, text: &[u8], out: &mut O) -> Result<Answer, PageFault>
     ensures page { PageWritten text.now (O.written out.old) (O.written out.new) result }
     ensures tells { KeepsTelling (O.written out.old) (O.written out.new) }

@@ -9,6 +9,7 @@ use crate::breaks::{border_at, push_break};
 use crate::hints::hint_at;
 use crate::page::Answer;
 use crate::pictures::push_picture;
+use crate::subject::{push_subject, subject_at};
 use itoa::Buffer;
 use module_table::{CheckFault, check};
 use std::alloc::Global;
@@ -41,6 +42,7 @@ pub(crate) fn page_of(alloc: Global, text: &[u8]) -> Result<Page, Memory>
                 let hint = hint_at(*number);
                 let mut bytes = fault_page(alloc, text, *number, name, *place, hint)?;
                 push_break(alloc, &mut bytes, text, border_at(*number, *place))?;
+                push_subject(alloc, &mut bytes, text, subject_at(*number, *place))?;
                 Ok(Page {
                     answer: Answer::Refused,
                     bytes,

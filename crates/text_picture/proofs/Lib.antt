@@ -1,3 +1,4 @@
 pub mod Pushed
 pub mod Short
 pub mod Window
+pub mod Added

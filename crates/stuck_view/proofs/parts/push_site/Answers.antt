@@ -3,7 +3,7 @@ use Rattle.umix_base.specs.declared.place.Place.{Place}
 use Rattle.text_picture.specs.Pictures.{lined, picture_lines}
 use Rattle.two_d.specs.Texts.{site_line}
 use Rattle.stuck_view.specs.Pages.{site_place}
-use Rattle.stuck_view.proofs.Added.{two_added}
+use Rattle.text_picture.proofs.Added.{two_added}
 use Rattle.stuck_view.proofs.parts.push_site.Goals as goal
 
 pub returns : goal.returns

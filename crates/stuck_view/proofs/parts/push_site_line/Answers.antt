@@ -1,6 +1,6 @@
 use Rattle.std.specs.Prelude.{codes}
 use Rattle.two_d.specs.Texts.{name_at}
-use Rattle.stuck_view.proofs.Added.{three_added}
+use Rattle.text_picture.proofs.Added.{three_added}
 use Rattle.stuck_view.proofs.parts.push_site_line.Goals as goal
 
 pub returns-in_ok-extend_from_slice-in-TwoResults-2 : goal.returns-in_ok-extend_from_slice-in-TwoResults-2

@@ -3,7 +3,7 @@ use Rattle.std.specs.List.{flat_map}
 use Rattle.std.specs.Prelude.{min, reverse}
 use Rattle.std.proofs.lemmas.List.{get_or-reverse, length-reverse}
 use Rattle.stuck_view.specs.Pages.{caller_part}
-use Rattle.stuck_view.proofs.Added.{next_taken, taken_least}
+use Rattle.text_picture.proofs.Added.{next_taken, taken_least}
 use Rattle.stuck_view.proofs.trail.push_callers.Goals as goal
 
 pub loop-k-preserved : goal.loop-k-preserved

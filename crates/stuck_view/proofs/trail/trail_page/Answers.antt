@@ -5,7 +5,7 @@ use Rattle.std.proofs.lemmas.List.{length-reverse}
 use Rattle.two_d.specs.Trails.{trail_at}
 use Rattle.two_d.specs.declared.trail.Site.{Site}
 use Rattle.stuck_view.specs.Pages.{caller_part, more_line, most_shown, site_part}
-use Rattle.stuck_view.proofs.Added.{pieces_added}
+use Rattle.text_picture.proofs.Added.{pieces_added}
 use Rattle.stuck_view.proofs.trail.trail_page.Goals as goal
 
 pub returns : goal.returns
