@@ -1,6 +1,6 @@
 -- No line of a page has more than 100 columns.
 use Rattle.std.proofs.Common.{◌≡◌, ◌-◌, ◌+◌, ◌^◌, ◌<◌, ◌≤◌, ◌==◌, ℕ, true, false, Bool, List, [], ◌++◌, map, take, drop, length, refl, arith, length-append, length-drop}
-use Rattle.std.specs.Prelude.{Option, Some, None, if◌then◌else◌, codes, decimal, nat_lt, slice_index}
+use Rattle.std.specs.Prelude.{Option, Some, None, if◌then◌else◌, codes, decimal, slice_index}
 use Rattle.std.proofs.lemmas.Fmt.{length-decimal-le}
 use Rattle.std.proofs.lemmas.List.{length-map, length-take}
 use Rattle.std.specs.Int.{w32, to_be_bytes}
@@ -17,7 +17,7 @@ use Rattle.asm_view.specs.declared.hints.Form.TheVariants.{Cmov, Index, Amend, A
 use Rattle.asm_view.specs.declared.hints.Form.TheVariants.{Alloc, Abandon, Out, In, Load, Set, Word, Hex}
 use Rattle.asm_view.specs.declared.hints.Form.TheVariants.{Array, End}
 use Rattle.asm_view.specs.Hints.{form_at, head_hint, hint_of, sentence_of, word_hint}
-use Rattle.asm_view.specs.Rows.{column, hex_digits, more_label, plain_row, row, source_part, word_part}
+use Rattle.asm_view.specs.Rows.{column, hex_digits, more_row, plain_row, row, source_part, word_columns, word_part}
 
 column_nine : (label : List ℕ) → length label ≤ 9 → length (column label) ≤ 9
 column_nine label few =
@@ -38,17 +38,6 @@ hex_eight word =
 hex_nine : (word : ℕ) → length (column (hex_digits word)) ≤ 9
 hex_nine word = let eight = hex_eight word in column_nine (hex_digits word) (omega (arith, eight))
 
-more_label_nine : (count : ℕ) → count < 10 ^ 8 → (b : Bool) → length (if b then codes "+" ++ decimal (count - 1) else []) ≤ 9
-more_label_nine count lt true =
-    let digits = length-decimal-le 8 (count - 1) (omega arith) (omega (arith, lt)) (omega (arith, lt)) in
-    let all = length-append (codes "+") (decimal (count - 1)) in
-    let one : length (codes "+") ≡ 1 = refl in
-    omega (arith, digits, all, one)
-more_label_nine count lt false = omega arith
-
-more_nine : (count : ℕ) → count < 10 ^ 8 → length (column (more_label count)) ≤ 9
-more_nine count lt = column_nine (more_label count) (more_label_nine count lt (nat_lt 1 count))
-
 source_short : (count : ℕ) (bytes : List ℕ) → length (source_part count bytes) ≤ count + 3
 source_short count bytes =
     let mapped = length-map (take count bytes) shown in
@@ -57,34 +46,38 @@ source_short count bytes =
     let three : length (codes " | ") ≡ 3 = refl in
     omega (arith, mapped, taken, all, three)
 
-four_short : (a b c d : List ℕ) → length a ≤ 9 → length b ≤ 9 → length c ≤ 9 → length d ≤ 9 → length (a ++ b ++ c ++ d) ≤ 36
-four_short a b c d p q r s =
+three_short : (a b c : List ℕ) → length a ≤ 9 → length b ≤ 9 → length c ≤ 9 → length (a ++ b ++ c) ≤ 27
+three_short a b c p q r =
     let one = length-append a b in
-    let two = length-append (a ++ b) c in
-    let all = length-append (a ++ b ++ c) d in
-    omega (arith, p, q, r, s, one, two, all)
+    let all = length-append (a ++ b) c in
+    omega (arith, p, q, r, one, all)
 
 blank : length (column []) ≤ 9
 blank = column_nine [] (omega arith)
 
-words_short : (words : List ℕ) (l : TextLine (List ℕ)) → l.place < 10 ^ 9 → l.count < 10 ^ 8 → (b : Bool) →
-    length (if b then column [] ++ column [] ++ column [] ++ column []
-    else column (decimal (l.place - l.base)) ++ column (decimal l.place) ++ column (hex_digits (slice_index words l.place))
-    ++ column (more_label l.count)) ≤ 36
-words_short words l place count true = four_short (column []) (column []) (column []) (column []) blank blank blank blank
-words_short words l place count false =
-    four_short _ _ _ _ (number_nine (l.place - l.base) (omega (arith, place))) (number_nine l.place place)
-    (hex_nine (slice_index words l.place)) (more_nine l.count count)
+columns_short : (words : List ℕ) (base at : ℕ) → at < 10 ^ 9 → length (word_columns words base at) ≤ 27
+columns_short words base at place =
+    three_short _ _ _ (number_nine (at - base) (omega (arith, place))) (number_nine at place) (hex_nine (slice_index words at))
 
-pub row_short : (words : List ℕ) (l : TextLine (List ℕ)) → l.number < 10 ^ 9 → l.place < 10 ^ 9 → l.count < 10 ^ 8 →
-    length (row words l) ≤ 100
-row_short words l number place count =
+first_short : (words : List ℕ) (l : TextLine (List ℕ)) → l.place < 10 ^ 9 → (b : Bool) →
+    length (if b then column [] ++ column [] ++ column [] else word_columns words l.base l.place) ≤ 27
+first_short words l place true = three_short (column []) (column []) (column []) blank blank blank
+first_short words l place false = columns_short words l.base l.place place
+
+pub row_short : (words : List ℕ) (l : TextLine (List ℕ)) → l.number < 10 ^ 9 → l.place < 10 ^ 9 → length (row words l) ≤ 100
+row_short words l number place =
     let first = number_nine l.number number in
-    let middle = words_short words l place count (l.count == 0) in
-    let last = source_short 52 l.bytes in
+    let middle = first_short words l place (l.count == 0) in
+    let last = source_short 61 l.bytes in
     let one = length-append (column (decimal l.number)) (word_part words l) in
-    let all = length-append (column (decimal l.number) ++ word_part words l) (source_part 52 l.bytes) in
+    let all = length-append (column (decimal l.number) ++ word_part words l) (source_part 61 l.bytes) in
     omega (arith, first, middle, last, one, all)
+
+pub more_short : (words : List ℕ) (base at : ℕ) → at < 10 ^ 9 → length (more_row words base at) ≤ 100
+more_short words base at place =
+    let columns = columns_short words base at place in
+    let all = length-append (column []) (word_columns words base at) in
+    omega (arith, columns, blank, all)
 
 pub plain_short : (l : TextLine (List ℕ)) → l.number < 10 ^ 9 → length (plain_row l) ≤ 100
 plain_short l number =

@@ -1,5 +1,6 @@
 -- The page of an assembly text.
-use Rattle.std.specs.Prelude.{◌≡◌, ℕ, ◌-◌, List, [], ◌++◌, map, length, codes, decimal}
+use Rattle.std.specs.Prelude.{◌≡◌, ℕ, ◌-◌, List, [], ◌++◌, length, codes, decimal}
+use Rattle.std.specs.List.{flat_map}
 use Rattle.std.specs.Prelude.{slice_get, Option, Some, None, Ok, Err}
 use Rattle.text_picture.specs.Pictures.{lined}
 use Rattle.um_asm.specs.Assembly.{assembled}
@@ -13,12 +14,12 @@ use Rattle.um_asm.specs.declared.text_line.TextLine.{TextLine}
 use Rattle.asm_view.specs.declared.page.Answer.{Answer}
 use Rattle.asm_view.specs.declared.page.Answer.TheVariants.{Accepted, Refused}
 use Rattle.asm_view.specs.Hints.{hint_of}
-use Rattle.asm_view.specs.Rows.{plain_row, row}
+use Rattle.asm_view.specs.Rows.{plain_row, rows_at}
 
 -- the page of a text with these words: how many there are, and each line with its words
 abbrev pub listing : List ℕ → List (TextLine (List ℕ)) → List ℕ
 listing words lines =
-    codes "ok " ++ decimal (length words) ++ codes "\n" ++ lined (map (row words) lines)
+    codes "ok " ++ decimal (length words) ++ codes "\n" ++ lined (flat_map (rows_at words) lines)
 
 -- a fault of a text as it is told: its number, its name and its line
 abbrev pub told_as : AsmFault → ℕ × List ℕ × Option ℕ

@@ -1,12 +1,13 @@
 //! The listing of a text that has words.
 
 ghost use Rattle.std.specs.Prelude.{◌≡◌, ◌++◌, IfOk, OnOk, map};
+ghost use Rattle.std.specs.List.{flat_map};
 ghost use Rattle.text_picture.specs.Pictures.{lined};
 ghost use Rattle.um_asm.specs.inner.TextParts.{text_line_read};
 ghost use Rattle.asm_view.specs.Pages as plain;
-ghost use Rattle.asm_view.specs.Rows.{row};
+ghost use Rattle.asm_view.specs.Rows.{rows_at};
 
-use crate::rows::push_row;
+use crate::rows::push_rows_of;
 use itoa::Buffer;
 use std::alloc::Global;
 use um_asm::TextLine;
@@ -32,10 +33,10 @@ pub(crate) fn listing(
 /// Adds each line with its words.
 fn push_rows(page: &mut Vec<u8>, words: &[u32], lines: &[TextLine<&[u8]>]) -> Result<(), Memory>
     ensures { OnOk result (page.new.items
-        ≡ page.old.items ++ lined (map (row words.now) (map text_line_read lines.now))) }
+        ≡ page.old.items ++ lined (flat_map (rows_at words.now) (map text_line_read lines.now))) }
 {
     for line in lines {
-        push_row(page, words, line)?;
+        push_rows_of(page, words, line)?;
     }
     Ok(())
 }

@@ -25,9 +25,8 @@ pub struct Page {
     pub bytes: Vec<u8>,
 }
 
-/// The page of an assembly text: how many words it has, and each of its lines with its number, where
-/// its first word stands in its block and in the scroll, from 0, and that word; or the line that
-/// `asm` tells of its first fault, the faulty line, and what it would have been (docs/EXPLAIN.md, "The
+/// The page of an assembly text: how many words it has, and each of its lines with its number and its
+/// words, each with where it stands in its block and in the scroll, from 0; or the line that `asm` tells of its first fault, the faulty line, and what it would have been (docs/EXPLAIN.md, "The
 /// page of an assembly text"). Takes time and memory linear in the text and its words.
 pub fn asm_page(alloc: Global, text: &[u8]) -> Result<Page, Memory>
     ensures { IfOk result (λ page. IsPage text.now page.answer page.bytes.items) }

@@ -1,10 +1,11 @@
 //! The rows of a listing.
 
 ghost use Rattle.std.specs.Prelude.{◌≡◌, ◌∷◌, [], ◌++◌, OnOk, map, take, decimal, slice_index};
+ghost use Rattle.text_picture.specs.Pictures.{lined};
 ghost use Rattle.text_picture.specs.Rows.{shown};
 ghost use Rattle.um_asm.specs.inner.TextParts.{text_line_read};
-ghost use Rattle.asm_view.specs.Rows.{column, hex_digits, more_label, plain_row, row, source_part};
-ghost use Rattle.asm_view.specs.Rows.{word_part};
+ghost use Rattle.asm_view.specs.Rows.{column, hex_digits, more_row, more_rows, plain_row, row, rows_at};
+ghost use Rattle.asm_view.specs.Rows.{source_part, word_columns, word_part};
 
 use itoa::Buffer;
 use um_asm::TextLine;
@@ -13,18 +14,51 @@ use umix_base::Memory;
 /// The columns of a label.
 const BLANKS: &[u8] = b"         ";
 
-/// Adds a line with its number and its words.
-pub(crate) fn push_row(
+/// Adds a line with its number and its words, a row for each.
+pub(crate) fn push_rows_of(
     page: &mut Vec<u8>,
     words: &[u32],
     line: &TextLine<&[u8]>,
 ) -> Result<(), Memory>
     ensures { OnOk result (page.new.items
+        ≡ page.old.items ++ lined (rows_at words.now (text_line_read line.now))) }
+{
+    push_row(page, words, line)?;
+    push_more_rows(page, words, line)?;
+    Ok(())
+}
+
+/// Adds a line with its number and its first word.
+fn push_row(page: &mut Vec<u8>, words: &[u32], line: &TextLine<&[u8]>) -> Result<(), Memory>
+    ensures { OnOk result (page.new.items
         ≡ page.old.items ++ (row words.now (text_line_read line.now) ++ 10 ∷ [])) }
 {
     push_number(page, line.number)?;
-    push_words(page, words, line)?;
-    push_source(page, line.bytes, 52)?;
+    push_first(page, words, line)?;
+    push_source(page, line.bytes, 61)?;
+    page.push(b'\n')?;
+    Ok(())
+}
+
+/// Adds the other words of a line.
+fn push_more_rows(page: &mut Vec<u8>, words: &[u32], line: &TextLine<&[u8]>) -> Result<(), Memory>
+    ensures { OnOk result (page.new.items
+        ≡ page.old.items ++ lined (more_rows words.now (text_line_read line.now))) }
+{
+    let end = line.place.saturating_add(line.count).min(words.len());
+    for at in line.place.saturating_add(1)..end {
+        push_more_row(page, words, line.base, at)?;
+    }
+    Ok(())
+}
+
+/// Adds a word more of a line.
+fn push_more_row(page: &mut Vec<u8>, words: &[u32], base: usize, at: usize) -> Result<(), Memory>
+    ensures { OnOk result (page.new.items
+        ≡ page.old.items ++ (more_row words.now base at ++ 10 ∷ [])) }
+{
+    push_column(page, b"")?;
+    push_word(page, words, base, at)?;
     page.push(b'\n')?;
     Ok(())
 }
@@ -40,8 +74,8 @@ pub(crate) fn push_plain_row(page: &mut Vec<u8>, line: &TextLine<&[u8]>) -> Resu
     Ok(())
 }
 
-/// Adds where the first word of a line stands, the word, and how many more follow.
-fn push_words(page: &mut Vec<u8>, words: &[u32], line: &TextLine<&[u8]>) -> Result<(), Memory>
+/// Adds the first word of a line.
+fn push_first(page: &mut Vec<u8>, words: &[u32], line: &TextLine<&[u8]>) -> Result<(), Memory>
     ensures { OnOk result (page.new.items
         ≡ page.old.items ++ word_part words.now (text_line_read line.now)) }
 {
@@ -49,13 +83,19 @@ fn push_words(page: &mut Vec<u8>, words: &[u32], line: &TextLine<&[u8]>) -> Resu
         push_column(page, b"")?;
         push_column(page, b"")?;
         push_column(page, b"")?;
-        push_column(page, b"")?;
         return Ok(());
     }
-    push_number(page, line.place.saturating_sub(line.base))?;
-    push_number(page, line.place)?;
-    push_hex(page, word_at(words, line.place))?;
-    push_more(page, line.count)?;
+    push_word(page, words, line.base, line.place)?;
+    Ok(())
+}
+
+/// Adds where a word stands in its block and in the scroll, and the word.
+fn push_word(page: &mut Vec<u8>, words: &[u32], base: usize, at: usize) -> Result<(), Memory>
+    ensures { OnOk result (page.new.items ≡ page.old.items ++ word_columns words.now base at) }
+{
+    push_number(page, at.saturating_sub(base))?;
+    push_number(page, at)?;
+    push_hex(page, word_at(words, at))?;
     Ok(())
 }
 
@@ -93,23 +133,6 @@ fn push_hex(page: &mut Vec<u8>, word: u32) -> Result<(), Memory>
     let mut digits = [0u8; 8];
     let _ = hex::encode_to_slice(&word.to_be_bytes(), &mut digits);
     push_column(page, &digits)
-}
-
-/// Adds how many words follow the first of so many.
-fn push_more(page: &mut Vec<u8>, count: usize) -> Result<(), Memory>
-    ensures { OnOk result (page.new.items ≡ page.old.items ++ column (more_label count)) }
-{
-    if count <= 1 {
-        return push_column(page, b"");
-    }
-    let mut buffer = Buffer::new();
-    let digits = buffer.format(count - 1).as_bytes();
-    if digits.len() + 1 < BLANKS.len() {
-        page.extend_from_slice(&BLANKS[digits.len() + 1..])?;
-    }
-    page.push(b'+')?;
-    page.extend_from_slice(digits)?;
-    Ok(())
 }
 
 /// Adds the first bytes of a line, up to so many.

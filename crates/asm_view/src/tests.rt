@@ -7,11 +7,12 @@ const PAGES: [(&str, Answer, &str); 4] = [
         "start: set r0, 65 ; A\n\nout r0\nhalt\n.hex 0000000100000002\n",
         Answer::Accepted,
         "ok 5\n\
-        \u{20}       1        0        0 d0000041          | start: set r0, 65 ; A\n\
-        \u{20}       2                                     | \n\
-        \u{20}       3        1        1 a0000000          | out r0\n\
-        \u{20}       4        2        2 70000000          | halt\n\
-        \u{20}       5        3        3 00000001       +1 | .hex 0000000100000002\n",
+        \u{20}       1        0        0 d0000041 | start: set r0, 65 ; A\n\
+        \u{20}       2                            | \n\
+        \u{20}       3        1        1 a0000000 | out r0\n\
+        \u{20}       4        2        2 70000000 | halt\n\
+        \u{20}       5        3        3 00000001 | .hex 0000000100000002\n\
+        \u{20}                4        4 00000002\n",
     ),
     (
         "halt\nadd r0, r1\n",
